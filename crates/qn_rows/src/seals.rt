@@ -83,8 +83,8 @@ impl Seals {
         let packet = columns.next()?;
         let wanted = columns.last()?;
         let (key, text) = (
-            named(self.keys.as_slice(), key)?,
-            named(self.texts.as_slice(), text)?,
+            value_of(self.keys.as_slice(), key)?,
+            value_of(self.texts.as_slice(), text)?,
         );
         let seal = seal_of([from, to, boot, number])?;
         let packet = bytes_of(alloc, packet)?;
@@ -105,8 +105,8 @@ impl Seals {
             columns.last()?,
         );
         let (key, text) = (
-            named(self.keys.as_slice(), key)?,
-            named(self.texts.as_slice(), text)?,
+            value_of(self.keys.as_slice(), key)?,
+            value_of(self.texts.as_slice(), text)?,
         );
         let bytes = bytes_of(alloc, bytes)?;
         let Some((given, inner)) = open(&key, &text, bytes.as_slice()) else {
@@ -133,12 +133,12 @@ impl Seals {
         );
         let mut names = keys.split(',');
         let keys = Keys {
-            first: named(self.keys.as_slice(), names.next()?)?,
-            second: named(self.keys.as_slice(), names.next().unwrap_or("")),
-            third: named(self.keys.as_slice(), names.next().unwrap_or("")),
+            first: value_of(self.keys.as_slice(), names.next()?)?,
+            second: value_of(self.keys.as_slice(), names.next().unwrap_or("")),
+            third: value_of(self.keys.as_slice(), names.next().unwrap_or("")),
         };
         let (rank, nodes) = (read_rank(rank)?.0, read_byte(nodes)?);
-        let text = named(self.texts.as_slice(), text)?;
+        let text = value_of(self.texts.as_slice(), text)?;
         self.receiver = Some(Receiver::new(rank, nodes, keys, text));
         Some(true)
     }
@@ -156,7 +156,7 @@ fn takes(alloc: Global, receiver: &mut Receiver, fields: &str) -> Option<bool> {
 }
 
 /// What that name stands for.
-fn named<T: Copy>(all: &[Named<T>], name: &str) -> Option<T> {
+fn value_of<T: Copy>(all: &[Named<T>], name: &str) -> Option<T> {
     for one in all {
         if one.name.as_str() == name {
             return Some(one.value);
