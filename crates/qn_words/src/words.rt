@@ -57,6 +57,19 @@ impl<'a> Words<'a> {
         read_rank(self.next()?)
     }
 
+    /// What stands after that key in the next part.
+    pub fn value(&mut self, key: &str) -> Option<&'a str> {
+        self.next()?.strip_prefix(key)
+    }
+
+    /// What stands after that key in the next part, or this where no part follows.
+    pub fn value_or(&mut self, key: &str, absent: &'static str) -> Option<&'a str> {
+        match self.next() {
+            Some(part) => part.strip_prefix(key),
+            None => Some(absent),
+        }
+    }
+
     /// The next part, where it is the last one.
     pub fn last(&mut self) -> Option<&'a str> {
         let word = self.next()?;

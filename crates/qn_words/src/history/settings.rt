@@ -1,5 +1,5 @@
 //! Reads the line of settings of a recorded history.
-use crate::words::{read_number, read_rank, read_small_number, read_truth};
+use crate::words::{Words, read_number, read_rank, read_small_number, read_truth};
 use qn_base::NodeId;
 use qn_model::{Device, NodeEntry, Nodes, Order, Settings};
 
@@ -11,24 +11,28 @@ pub fn settings_words(line: &str) -> Option<&str> {
 /// The settings of these words, separated by spaces, each a key with its value in the order that is written above.
 /// Without `tie=` there is no tie breaker, and without `delays=`, which stands behind it, no fence delay.
 pub fn read_settings(text: &str) -> Option<Settings> {
-    let (text, more) = text.split_once(" tie=").unwrap_or((text, "none"));
-    let (order, delays) = more.split_once(" delays=").unwrap_or((more, "0"));
-    let (text, expected) = text.split_once(" expected=")?;
-    let (text, device) = text.split_once(" device=")?;
-    let (text, window) = text.split_once(" window=")?;
-    let (text, last_man_standing) = text.split_once(" last_man_standing=")?;
-    let (text, wait_for_all) = text.split_once(" wait_for_all=")?;
-    let (text, two_node) = text.split_once(" two_node=")?;
-    let nodes = text.strip_prefix("nodes=")?;
+    let mut words = Words::of(text);
+    let nodes = words.value("nodes=")?;
+    let two_node = read_truth(words.value("two_node=")?)?;
+    let wait_for_all = read_truth(words.value("wait_for_all=")?)?;
+    let last_man_standing = read_truth(words.value("last_man_standing=")?)?;
+    let window = read_number(words.value("window=")?)?;
+    let device = read_device(words.value("device=")?)?;
+    let expected = read_number(words.value("expected=")?)?;
+    let tie = read_tie(words.value_or("tie=", "none")?)?;
+    let delays = read_delays(words.value_or("delays=", "0")?)?;
+    if words.next().is_some() {
+        return None;
+    }
     Some(Settings {
-        nodes: read_nodes(nodes, read_delays(delays)?)?,
-        two_node: read_truth(two_node)?,
-        wait_for_all: read_truth(wait_for_all)?,
-        last_man_standing: read_truth(last_man_standing)?,
-        window: read_number(window)?,
-        device: read_device(device)?,
-        expected: read_number(expected)?,
-        tie: read_tie(order)?,
+        nodes: read_nodes(nodes, delays)?,
+        two_node,
+        wait_for_all,
+        last_man_standing,
+        window,
+        device,
+        expected,
+        tie,
     })
 }
 
