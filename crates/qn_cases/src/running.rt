@@ -8,7 +8,7 @@ use crate::scripted::scripted;
 use crate::telling::Telling;
 use qn_audit::Recorder;
 use qn_commands::{Status, create};
-use qn_doubles::{MemSink, QuietEnv, input_of, output_of};
+use qn_doubles::{MemSink, Outside, input_of, output_of};
 use qn_io::{Env, PIECE, Sink};
 use qn_live::{NoNotices, Notices};
 use qn_model::Timing;
@@ -76,8 +76,8 @@ pub fn quiet_text(alloc: Global, case: &Case) -> Option<String> {
 }
 
 /// An outside that never fails and hears nothing, with a new image for these settings.
-pub fn quiet_outside(alloc: Global, settings: &str) -> Option<QuietEnv> {
-    let mut env = QuietEnv::new(alloc).ok()?;
+pub fn quiet_outside(alloc: Global, settings: &str) -> Option<Outside> {
+    let mut env = Outside::new(alloc).ok()?;
     let mut input = input_of(alloc, settings, PIECE, 0).ok()?;
     let mut said = output_of(alloc, MOST_END_BYTES, 0).ok()?;
     let times = Timing::usual();

@@ -4,32 +4,24 @@ ghost use Rattle.std.specs.Prelude.{◌≤◌};
 use crate::case::node_words;
 use crate::running::{MOST_END_BYTES, quiet_outside, record, run_node};
 use qn_base::{Failed, NodeId};
-use qn_doubles::{IMAGE_SECTORS, QuietEnv, output_of};
+use qn_doubles::{IMAGE_SECTORS, Outside, output_of};
 use qn_io::{Env, SECTOR, Sink, put_all};
 use qn_live::NoNotices;
-use qn_machine::StdSink;
 use qn_running::{NodeImages, NodeWords};
-use qn_words::at_fault;
 use std::alloc::Global;
-use std::io;
 
 /// Three nodes with one vote each.
 const THREE: &str =
     "nodelist {\nnode {\nnodeid: 1\n}\nnode {\nnodeid: 2\n}\nnode {\nnodeid: 3\n}\n}\n";
 
 /// Runs the node for so many turns on `one` image or on `three`, and writes how it ended; or on one image, and writes its `log`: what an
-/// audit of the run reads.
-pub fn time_turns(rt: &HostRuntime, turns: u64, how: &str) -> io::Result<()> {
-    let mut out = StdSink::new(io::writer(rt), rt);
-    let done = match how {
-        "one" => run_turns(rt.alloc(), NodeImages::One, turns, &mut out),
-        "three" => run_turns(rt.alloc(), NodeImages::Three, turns, &mut out),
-        "log" => record_turns(rt.alloc(), turns, &mut out),
-        _ => return Err(at_fault("no way of that name to run a node")),
-    };
-    match done {
-        Some(()) => Ok(()),
-        None => println!(rt; "no run"),
+/// audit of the run reads. None where there is no way of that name, or the node is not run.
+pub fn time_turns<O: Sink>(alloc: Global, turns: u64, how: &str, out: &mut O) -> Option<()> {
+    match how {
+        "one" => run_turns(alloc, NodeImages::One, turns, out),
+        "three" => run_turns(alloc, NodeImages::Three, turns, out),
+        "log" => record_turns(alloc, turns, out),
+        _ => None,
     }
 }
 
@@ -62,12 +54,12 @@ fn words_for(turns: u64) -> NodeWords<'static>
 }
 
 /// Copies the first image onto the second and the third.
-fn copy_image(env: &mut QuietEnv) -> Result<(), Failed> {
+fn copy_image(outside: &mut Outside) -> Result<(), Failed> {
     let mut bytes = [0; SECTOR];
     for sector in 0..IMAGE_SECTORS {
-        env.read(sector, &mut bytes)?;
-        env.write(IMAGE_SECTORS + sector, &bytes)?;
-        env.write(2 * IMAGE_SECTORS + sector, &bytes)?;
+        outside.read(sector, &mut bytes)?;
+        outside.write(IMAGE_SECTORS + sector, &bytes)?;
+        outside.write(2 * IMAGE_SECTORS + sector, &bytes)?;
     }
     Ok(())
 }

@@ -2,13 +2,31 @@
 ghost use Rattle.std.specs.Prelude.{◌≤◌, OnErr};
 ghost use Rattle.qn_base.specs.Faults.{HasRisen};
 
-use crate::sectors::IMAGE_SECTORS;
 use qn_base::{Failed, Rank};
 use qn_io::{Env, Got, Opening, PACKET, SECTOR, SECTORS};
 use std::alloc::{AllocError, Global};
 
-/// The Hello of the node of rank 1.
-const HELLO: [u8; 4] = [b'Q', b'N', 3, 1];
+/// How many sectors one image of three has.
+pub const IMAGE_SECTORS: u32 = 1024;
+
+/// What one receive gives: a packet of so many of these bytes, or none.
+#[derive(Clone, Copy)]
+pub struct Heard {
+    pub bytes: [u8; PACKET],
+    pub length: Option<usize>,
+}
+
+impl Heard {
+    /// A packet with these bytes at its beginning.
+    pub fn packet(front: &[u8; 4]) -> Heard {
+        let mut bytes = [0; PACKET];
+        bytes[..4].copy_from_slice(front);
+        Heard {
+            bytes,
+            length: Some(4),
+        }
+    }
+}
 
 /// What fails in a run: that call, by its number from 1 among those that can fail; and from that read or write on those of these
 /// images.
@@ -39,7 +57,7 @@ pub struct Counts {
     can_fail: u64,
     reads_and_writes: u64,
     looks: usize,
-    packets: u64,
+    heard: usize,
     /// Feeds after the first read or write at which images were lost.
     late_feeds: u64,
 }
@@ -51,7 +69,7 @@ impl Counts {
         can_fail: 0,
         reads_and_writes: 0,
         looks: 0,
-        packets: 0,
+        heard: 0,
         late_feeds: 0,
     };
 }
@@ -65,8 +83,8 @@ pub struct Outside {
     begin: u32,
     /// What its clock tells in each run, the last one again and again; where it is empty each look is 10 ms after the one before.
     pub ticks: Vec<u64>,
-    /// Whether the first packet of each run is a Hello. There is no other one.
-    pub says_hello: bool,
+    /// What each run receives, in order. After the last one nothing comes.
+    pub heard: Vec<Heard>,
     /// What fails in the next run.
     pub loss: Loss,
     /// What was counted in the last run.
@@ -85,7 +103,7 @@ impl Outside {
             sectors: vec![in alloc; [0; SECTOR]; SECTORS as usize]?,
             begin: 0,
             ticks: Vec::new(alloc),
-            says_hello: false,
+            heard: Vec::new(alloc),
             loss: Loss::NONE,
             counts: Counts::NONE,
             starts: 0,
@@ -173,12 +191,16 @@ impl Env for Outside {
         if self.tried(false).is_err() {
             return Got::Failed;
         }
-        self.counts.packets = self.counts.packets.saturating_add(1);
-        if !self.says_hello || self.counts.packets > 1 {
+        let place = self.counts.heard;
+        self.counts.heard = place.saturating_add(1);
+        let Some(heard) = self.heard.get(place) else {
             return Got::Nothing;
+        };
+        *packet = heard.bytes;
+        match heard.length {
+            Some(length) => Got::Packet(length.min(PACKET)),
+            None => Got::Nothing,
         }
-        packet[..4].copy_from_slice(&HELLO);
-        Got::Packet(4)
     }
 
     fn read(&mut self, sector: u32, into: &mut [u8; SECTOR]) -> Result<(), Failed> {

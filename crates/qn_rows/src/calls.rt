@@ -1,7 +1,5 @@
 //! Public calls beside which the program makes others: the votes and the least of some members, the line of an event, and the
 //! licences of a fencer.
-ghost use Rattle.std.specs.Prelude.{◌<◌, IfSome};
-
 use arrayvec::ArrayVec;
 use qn_base::{Rank, View, chosen, votes};
 use qn_fence::{Fence, Licence, Want};
@@ -9,18 +7,21 @@ use qn_model::{Slot, SlotSeen};
 use qn_sched::{read_line, write_line};
 use qn_settings::settings_of_text;
 use qn_words::{
-    read_members, read_number, read_rank, read_settings, read_small_number, read_truth,
-    settings_words, text_of,
+    Words, first_word, read_members, read_number, read_rank, read_settings, read_small_number,
+    read_truth, settings_words, text_of,
 };
 use std::alloc::Global;
 
 /// Checks the votes of nodes in the order of their ranks, some members, and the sum of their votes with the least of them. Whether
 /// they are these.
-pub fn check_members(alloc: Global, row: &str) -> Option<bool> {
-    let columns: Vec<&str> = row.split('\t').collect(alloc).ok()?;
-    let [counts, members, sum, least] = columns.as_slice() else {
-        return None;
-    };
+pub fn check_members(row: &str) -> Option<bool> {
+    let mut columns = Words::columns(row);
+    let (counts, members, sum, least) = (
+        columns.next()?,
+        columns.next()?,
+        columns.next()?,
+        columns.last()?,
+    );
     let (counts, members) = (read_votes(counts)?, read_members(members)?);
     if members.0 == 0 {
         return None;
@@ -56,60 +57,50 @@ pub fn check_line(alloc: Global, row: &str) -> Option<bool> {
 /// Checks a call of the fencer of the node of rank 0 and its answer, separated by a tab: the settings of one that begins, with a
 /// msgwait of 10000; `view MEMBERS`, `clean RANK`, `dirty RANK` (what a read of its slot gave), `reset RANK TICK OK` or
 /// `licensed RANK TICK`. Whether the answer is that one.
-pub fn check_fence(alloc: Global, fence: &mut Option<Fence>, row: &str) -> Option<bool> {
+pub fn check_fence(fence: &mut Option<Fence>, row: &str) -> Option<bool> {
     let (call, answer) = row.split_once('\t')?;
     if let Some(words) = settings_words(call) {
         *fence = Some(Fence::new(&read_settings(words)?, Rank(0), 10000));
         return Some(answer == "-");
     }
-    let words: Vec<&str> = call.split(' ').collect(alloc).ok()?;
-    let fence = fence.as_mut()?;
-    if let ["licensed", rank, tick] = words.as_slice() {
-        let rank = configured(rank)?;
-        return Some(fence.licensed(rank, read_number(tick)?) == licence_of(answer)?);
-    }
-    hand(fence, words.as_slice())?;
-    Some(answer == "-")
+    hand(fence.as_mut()?, call, answer)
 }
 
-/// Hands a fencer a view, or the answer of what it asked for.
-fn hand(fence: &mut Fence, words: &[&str]) -> Option<()> {
-    match words {
-        ["view", members] => fence.on_view(View {
-            id: 0,
-            members: read_members(members)?,
-        }),
-        ["clean", rank] => read_slot(fence, configured(rank)?, true),
-        ["dirty", rank] => read_slot(fence, configured(rank)?, false),
-        ["reset", rank, tick, ok] => {
-            let rank = configured(rank)?;
+/// Hands a fencer a view, or the answer of what it asked for, or asks it for a licence.
+fn hand(fence: &mut Fence, call: &str, answer: &str) -> Option<bool> {
+    let (name, words) = first_word(call);
+    if name == "view" {
+        let members = read_members(words)?;
+        fence.on_view(View { id: 0, members });
+        return Some(answer == "-");
+    }
+    let (rank, words) = first_word(words);
+    let rank = read_rank(rank)?;
+    if rank.0 >= 32 {
+        return None;
+    }
+    match name {
+        "licensed" => return Some(fence.licensed(rank, read_number(words)?) == licence_of(answer)?),
+        "clean" | "dirty" => {
+            let clean = name == "clean";
+            fence.issued(Want::ReadSlot(rank));
+            fence.slot(
+                rank,
+                SlotSeen::Read(Slot {
+                    incarnation: 1,
+                    clean,
+                }),
+            );
+        }
+        "reset" => {
+            let mut words = Words::of(words);
+            let (tick, ok) = (words.number()?, read_truth(words.last()?)?);
             fence.issued(Want::WriteReset(rank));
-            fence.written(rank, read_number(tick)?, read_truth(ok)?);
+            fence.written(rank, tick, ok);
         }
         _ => return None,
     }
-    Some(())
-}
-
-fn read_slot(fence: &mut Fence, rank: Rank, clean: bool) {
-    fence.issued(Want::ReadSlot(rank));
-    fence.slot(
-        rank,
-        SlotSeen::Read(Slot {
-            incarnation: 1,
-            clean,
-        }),
-    );
-}
-
-/// A rank below 32.
-fn configured(word: &str) -> Option<Rank>
-    ensures { IfSome result (λ rank. rank.0 < 32) }
-{
-    match read_rank(word) {
-        Some(rank) if rank.0 < 32 => Some(rank),
-        _ => None,
-    }
+    Some(answer == "-")
 }
 
 /// `clean`, `fenced`, `unknown`, or `waiting LEFT`.

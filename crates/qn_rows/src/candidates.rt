@@ -7,37 +7,39 @@
 //! for none; NAME is a rank, `none`, or `nobody`.
 use qn_base::{Mask, Rank};
 use qn_candidate::{Facts, Name, candidate_of, number_of};
-use qn_words::{read_byte, read_members, read_number, read_rank};
-use std::alloc::Global;
+use qn_words::{Words, read_byte, read_members, read_number, read_rank};
 
 /// Checks a row: whether the leader names whom it says, and the next view has that number. None where it is no row.
-pub fn check_candidate(alloc: Global, row: &str) -> Option<bool> {
-    let words: Vec<&str> = row.split('\t').collect(alloc).ok()?;
-    let [members, leader, known @ .., present, name, greatest, number] = words.as_slice() else {
-        return None;
-    };
-    let facts = facts_of(read_rank(leader)?, known)?;
-    let named = candidate_of(ranks(members)?, &facts, rank_or_none(present)?);
-    Some(
-        named == name_of(name)? && number_of(named, read_number(greatest)?) == read_number(number)?,
-    )
-}
-
-fn facts_of(leader: Rank, words: &[&str]) -> Option<Facts> {
-    let [sees, hears, knows, barred, unfit, pulls, holds, weights] = words else {
-        return None;
-    };
+pub fn check_candidate(row: &str) -> Option<bool> {
+    let mut columns = Words::columns(row);
+    let members = columns.next()?;
+    let leader = columns.next()?;
+    let sees = columns.next()?;
+    let hears = columns.next()?;
+    let knows = columns.next()?;
+    let barred = columns.next()?;
+    let unfit = columns.next()?;
+    let pulls = columns.next()?;
+    let holds = columns.next()?;
+    let weights = columns.next()?;
+    let present = columns.next()?;
+    let name = columns.next()?;
+    let greatest = columns.next()?;
+    let number = columns.last()?;
     let sees = ranks(sees)?;
-    Some(Facts {
+    let facts = Facts {
         sees,
-        hears: read_hears(leader, sees, hears)?,
+        hears: read_hears(read_rank(leader)?, sees, hears)?,
         knows: ranks(knows)?,
         barred: ranks(barred)?,
         unfit: ranks(unfit)?,
         pulls: ranks(pulls)?,
         holds: ranks(holds)?,
         weights: read_weights(weights)?,
-    })
+    };
+    let named = candidate_of(ranks(members)?, &facts, rank_or_none(present)?);
+    let is_number = number_of(named, read_number(greatest)?) == read_number(number)?;
+    Some(is_number && named == name_of(name)?)
 }
 
 /// Whom each rank hears; of the leader, whom it sees.

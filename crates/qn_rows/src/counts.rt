@@ -4,46 +4,37 @@ use qn_base::View;
 use qn_model::{Answer, Settings, VoteEntry, VoteWhat};
 use qn_plain::vote_answer;
 use qn_quorum::Quorum;
-use qn_words::{read_members, read_number, read_settings, read_truth};
+use qn_words::{Words, read_members, read_number, read_settings, read_truth};
 use std::alloc::Global;
 
-/// A count: settings, entries and a tick, and the answer at that tick as it is written.
-#[derive(Drop)]
-pub struct Count<'a> {
-    settings: Settings,
-    votes: Vec<VoteEntry>,
-    tick: u64,
-    answer: &'a str,
-}
-
-impl<'a> Count<'a> {
-    /// Reads a count: its name, settings, entries, tick and answer, separated by tabs.
-    pub fn read(alloc: Global, row: &'a str) -> Option<Count<'a>> {
-        let columns: Vec<&str> = row.split('\t').collect(alloc).ok()?;
-        let [_, settings, votes, tick, answer] = columns.as_slice() else {
-            return None;
-        };
-        Some(Count {
-            settings: read_settings(settings)?,
-            votes: votes_of(alloc, votes)?,
-            tick: read_number(tick)?,
-            answer,
-        })
+/// Checks a count: its name, settings, entries, tick and answer, separated by tabs. What is said of it otherwise, nothing where both forms
+/// give that answer; None where it is no row.
+pub fn check_count(alloc: Global, row: &str) -> Option<Option<&'static str>> {
+    let mut columns = Words::columns(row);
+    let (_, settings, votes, tick, answer) = (
+        columns.next()?,
+        columns.next()?,
+        columns.next()?,
+        columns.next()?,
+        columns.last()?,
+    );
+    let (settings, tick) = (read_settings(settings)?, read_number(tick)?);
+    let votes = votes_of(alloc, votes)?;
+    if !is_written(
+        alloc,
+        &vote_answer(&settings, votes.as_slice(), tick),
+        answer,
+    ) {
+        return Some(Some("the count from the whole list"));
     }
-
-    /// What differs.
-    pub fn difference(&self, alloc: Global) -> Option<&'static str> {
-        let votes = self.votes.as_slice();
-        let whole = vote_answer(&self.settings, votes, self.tick);
-        if !is_written(alloc, &whole, self.answer) {
-            return Some("the count from the whole list");
-        }
-        let kept = kept_count(&self.settings, votes, self.tick);
-        if !is_written(alloc, &kept, self.answer) {
-            return Some("the count in fixed memory");
-        }
-        None
+    if !is_written(
+        alloc,
+        &kept_count(&settings, votes.as_slice(), tick),
+        answer,
+    ) {
+        return Some(Some("the count in fixed memory"));
     }
+    Some(None)
 }
 
 /// The count in fixed memory.
@@ -60,12 +51,10 @@ fn kept_count(settings: &Settings, votes: &[VoteEntry], tick: u64) -> Answer {
     quorum.answer(tick)
 }
 
+/// Entries with their ticks, joined by `; `, `-` for none.
 fn votes_of(alloc: Global, text: &str) -> Option<Vec<VoteEntry>> {
     let mut votes = Vec::new(alloc);
-    if text == "-" {
-        return Some(votes);
-    }
-    for entry in text.split("; ") {
+    for entry in text.split("; ").filter(|entry| *entry != "-") {
         votes.push(vote_of(entry)?).ok()?;
     }
     Some(votes)
@@ -73,27 +62,16 @@ fn votes_of(alloc: Global, text: &str) -> Option<Vec<VoteEntry>> {
 
 fn vote_of(text: &str) -> Option<VoteEntry> {
     let (tick, what) = text.split_once(' ')?;
-    Some(VoteEntry {
-        tick: read_number(tick)?,
-        what: what_of(what)?,
-    })
-}
-
-fn what_of(text: &str) -> Option<VoteWhat> {
-    match text {
-        "tick" => Some(VoteWhat::Tick),
-        "released" => Some(VoteWhat::Released),
-        _ => seen_of(text),
-    }
-}
-
-fn seen_of(text: &str) -> Option<VoteWhat> {
-    match text.split_once(' ')? {
-        ("device", yes) => Some(VoteWhat::Device(read_truth(yes)?)),
-        ("view", members) => Some(VoteWhat::View(View {
+    let tick = read_number(tick)?;
+    let what = match what.split_once(' ') {
+        None if what == "tick" => VoteWhat::Tick,
+        None if what == "released" => VoteWhat::Released,
+        Some(("device", yes)) => VoteWhat::Device(read_truth(yes)?),
+        Some(("view", members)) => VoteWhat::View(View {
             id: 0,
             members: read_members(members)?,
-        })),
-        _ => None,
-    }
+        }),
+        _ => return None,
+    };
+    Some(VoteEntry { tick, what })
 }

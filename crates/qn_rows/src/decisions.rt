@@ -7,7 +7,7 @@
 //! PRESENT is the present view, `ID MEMBERS` or `-`; GREATEST the greatest number so far. NUMBER is that of the next view, `-` where the
 //! present one stays or another node leads.
 use super::candidates::{rank_or_none, ranks};
-use super::makers::settings_with;
+use super::makers::settings_where;
 use qn_base::{Mask, Rank, Said, Standing, View};
 use qn_member::NamingMember;
 use qn_words::{read_byte, read_number, read_rank, read_said, read_truth, read_view};

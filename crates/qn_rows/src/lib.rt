@@ -39,6 +39,7 @@ mod row;
 mod seals;
 mod texts;
 mod ties;
+mod totals;
 mod written;
 
 pub use checking::check_rows;

@@ -16,68 +16,58 @@ use qn_base::{NodeId, View};
 use qn_member::Member;
 use qn_model::{NodeEntry, Nodes, Settings};
 use qn_words::{
-    read_byte, read_number, read_rank, read_said, read_small_number, read_truth, read_view,
+    Words, first_word, read_byte, read_number, read_rank, read_said, read_small_number, read_truth,
+    read_view,
 };
-use std::alloc::Global;
 
-/// What was read so far: how many view makers and calls there were, and the present view maker.
-#[derive(Default, Drop)]
-pub struct Makers {
-    pub made: u64,
-    pub calls: u64,
-    member: Option<Member>,
-}
+/// One vote for each node of the largest cluster.
+const ONE_EACH: &str = "1,1,1,1,1,1,1,1,1,1,1,1,1,1,1,1,1,1,1,1,1,1,1,1,1,1,1,1,1,1,1,1";
 
-impl Makers {
-    /// Checks a row: whether the call gives the answer. None where it is no call with its answer.
-    pub fn check(&mut self, alloc: Global, row: &str) -> Option<bool> {
-        let (call, answer) = row.split_once('\t')?;
-        let words: Vec<&str> = call.split(' ').collect(alloc).ok()?;
-        if let ["new", nodes, me, loop_ms] = words.as_slice() {
-            let settings = settings_of(read_byte(nodes)?)?;
-            self.member = Some(member_of(&settings, me, loop_ms)?);
-            self.made = self.made.saturating_add(1);
-            return Some(answer == "-");
-        }
-        if let ["new", nodes, me, loop_ms, enough, votes] = words.as_slice() {
-            let settings = settings_with(read_byte(nodes)?, read_number(enough)?, votes)?;
-            self.member = Some(member_of(&settings, me, loop_ms)?);
-            self.made = self.made.saturating_add(1);
-            return Some(answer == "-");
-        }
-        self.calls = self.calls.saturating_add(1);
-        gives(self.member.as_mut()?, words.as_slice(), answer)
+/// Checks a call of a view maker: whether it gives the answer. None where it is no call with its answer.
+pub fn check_maker(member: &mut Option<Member>, row: &str) -> Option<bool> {
+    let (call, answer) = row.split_once('\t')?;
+    let (name, words) = first_word(call);
+    if name == "new" {
+        *member = Some(maker_of(words)?);
+        return Some(answer == "-");
     }
+    gives(member.as_mut()?, name, words, answer)
 }
 
 /// Makes a call of a view maker: whether it gives this answer.
-fn gives(member: &mut Member, words: &[&str], answer: &str) -> Option<bool> {
-    match words {
-        ["on_hello", tick, from] => {
-            member.on_plain_hello(read_number(tick)?, read_rank(from)?);
-            Some(answer == "-")
+fn gives(member: &mut Member, name: &str, words: &str, answer: &str) -> Option<bool> {
+    match name {
+        "on_hello" => hears(member, words)?,
+        "on_announce" => {
+            let mut words = Words::of(words);
+            let (tick, from) = (words.number()?, words.rank()?);
+            member.on_announce(tick, from, read_view(words.next()?, words.last()?)?);
         }
-        ["on_hello", tick, from, hears, follows, able] => {
-            let said = read_said(hears, follows, able)?;
-            member.on_hello(read_number(tick)?, read_rank(from)?, said);
-            Some(answer == "-")
+        "on_tick" => return Some(member.on_tick(read_number(words)?) == view_of(answer)?),
+        "hello_due" => return Some(member.hello_due(read_number(words)?) == read_truth(answer)?),
+        "announces" => return Some(member.announces() == view_of(answer)?),
+        "leads" => return Some(member.leads() == Some(read_rank(answer)?)),
+        "says" => {
+            let mut words = Words::of(answer);
+            let said = read_said(words.next()?, words.next()?, words.last()?)?;
+            return Some(member.says() == said);
         }
-        ["on_announce", tick, from, id, members] => {
-            let view = read_view(id, members)?;
-            member.on_announce(read_number(tick)?, read_rank(from)?, view);
-            Some(answer == "-")
-        }
-        ["on_tick", tick] => Some(member.on_tick(read_number(tick)?) == view_of(answer)?),
-        ["hello_due", tick] => Some(member.hello_due(read_number(tick)?) == read_truth(answer)?),
-        ["announces"] => Some(member.announces() == view_of(answer)?),
-        ["leads"] => Some(member.leads() == Some(read_rank(answer)?)),
-        ["says"] => {
-            let (hears, rest) = answer.split_once(' ')?;
-            let (follows, able) = rest.split_once(' ')?;
-            Some(member.says() == read_said(hears, follows, able)?)
-        }
-        _ => None,
+        _ => return None,
     }
+    Some(answer == "-")
+}
+
+/// A Hello, alone or with what it says.
+fn hears(member: &mut Member, words: &str) -> Option<()> {
+    let mut words = Words::of(words);
+    let (tick, from) = (words.number()?, words.rank()?);
+    let Some(hears) = words.next() else {
+        member.on_plain_hello(tick, from);
+        return Some(());
+    };
+    let said = read_said(hears, words.next()?, words.last()?)?;
+    member.on_hello(tick, from, said);
+    Some(())
 }
 
 /// A view, or `none`.
@@ -89,61 +79,44 @@ fn view_of(text: &str) -> Option<Option<View>> {
     Some(Some(read_view(id, members)?))
 }
 
-fn member_of(settings: &Settings, me: &str, loop_ms: &str) -> Option<Member> {
-    Some(Member::new(settings, read_rank(me)?, read_number(loop_ms)?))
+/// A new view maker.
+fn maker_of(words: &str) -> Option<Member> {
+    let mut words = Words::of(words);
+    let (nodes, me, loop_ms) = (words.next()?, words.rank()?, words.number()?);
+    let settings = match words.next() {
+        None => settings_of(nodes, ONE_EACH, false, read_number(nodes)?)?,
+        Some(enough) => settings_where(nodes, read_number(enough)?, words.last()?)?,
+    };
+    Some(Member::new(&settings, me, loop_ms))
 }
 
-/// Settings of nodes of these votes, where a side needs so many.
-pub(crate) fn settings_with(count: u8, enough: u64, votes: &str) -> Option<Settings> {
-    let mut nodes = Nodes::new();
-    let mut id = 0u32;
-    for word in votes.split(',') {
-        if nodes.is_full() {
-            return None;
-        }
-        id = id.saturating_add(1);
-        nodes.push(NodeEntry {
-            id: NodeId(id),
-            votes: read_small_number(word)?,
-            fence_delay: 0,
-        });
-    }
-    if nodes.len() != usize::from(count) {
-        return None;
-    }
-    Some(Settings {
-        nodes,
-        two_node: enough == 0,
-        wait_for_all: false,
-        last_man_standing: false,
-        window: 10000,
-        device: None,
-        expected: enough.saturating_sub(1).saturating_mul(2),
-        tie: None,
-    })
+/// Settings of so many nodes, of these votes, where a side needs so many, 0 for two_node.
+pub(crate) fn settings_where(nodes: &str, enough: u64, votes: &str) -> Option<Settings> {
+    let expected = enough.saturating_sub(1).saturating_mul(2);
+    settings_of(nodes, votes, enough == 0, expected)
 }
 
-/// Settings of so many nodes, of one vote each.
-fn settings_of(count: u8) -> Option<Settings> {
+/// Settings of so many nodes, of these votes, with two_node or not, where so many votes are expected.
+fn settings_of(count: &str, votes: &str, two_node: bool, expected: u64) -> Option<Settings> {
     let mut nodes = Nodes::new();
-    for id in 1..=count {
+    for (id, votes) in (1..=read_byte(count)?).zip(votes.split(',')) {
         if nodes.is_full() {
             return None;
         }
         nodes.push(NodeEntry {
             id: NodeId(u32::from(id)),
-            votes: 1,
+            votes: read_small_number(votes)?,
             fence_delay: 0,
         });
     }
     Some(Settings {
         nodes,
-        two_node: false,
+        two_node,
         wait_for_all: false,
         last_man_standing: false,
         window: 10000,
         device: None,
-        expected: u64::from(count),
+        expected,
         tie: None,
     })
 }

@@ -17,101 +17,99 @@ use qn_base::{LONGEST_PERIOD, Mask, Rank, View};
 use qn_model::Device;
 use qn_polls::{Arbiter, Poller, Standing, get_poll, get_reply, least_lease, put_poll, put_reply};
 use qn_safety::{Poll, Reply};
-use qn_words::{bytes_of, read_number, read_rank, read_small_number, read_truth};
+use qn_words::{Words, bytes_of, first_word, read_number, read_small_number, read_truth};
 use std::alloc::Global;
 
-/// What was read so far: how many rows there were, and the present arbiter and poller.
-#[derive(Default, Drop)]
+/// The present arbiter and poller.
+#[derive(Drop)]
 pub struct Polls {
-    pub rows: u64,
-    arbiter: Option<Arbiter>,
-    poller: Option<Poller>,
+    pub arbiter: Option<Arbiter>,
+    pub poller: Option<Poller>,
 }
 
 impl Polls {
     /// Checks a row: whether the call gives the answer. None where it is no call with its answer.
     pub fn check(&mut self, alloc: Global, row: &str) -> Option<bool> {
-        self.rows = self.rows.saturating_add(1);
         let (call, answer) = row.split_once('\t')?;
-        let words: Vec<&str> = call.split(' ').collect(alloc).ok()?;
-        match words.as_slice() {
-            ["read", bytes] => is_read(bytes_of(alloc, bytes)?.as_slice(), alloc, answer),
-            ["lease", timeout] => is_lease(read_number(timeout)?, answer),
-            ["arbiter", lease, tick] => {
-                self.arbiter = Some(Arbiter::new(read_number(lease)?, read_number(tick)?));
-                Some(answer == "-")
+        let (name, words) = first_word(call);
+        match name {
+            "read" => return is_read(alloc, words, answer),
+            "lease" => return is_lease(read_number(words)?, answer),
+            "hear" => return self.hears(words, answer),
+            "send" => return sends(self.poller.as_mut()?, words, answer),
+            "take" => return takes(self.poller.as_ref()?, words, answer),
+            "arbiter" => {
+                let mut words = Words::of(words);
+                self.arbiter = Some(Arbiter::new(words.number()?, read_number(words.last()?)?));
             }
-            ["hear", tick, poll @ ..] => {
-                let poll = poll_of(poll)?;
-                if poll.from.0 >= 32 {
-                    return None;
-                }
-                let agrees = self.arbiter.as_mut()?.poll(read_number(tick)?, &poll);
-                Some(agrees == read_truth(answer)?)
-            }
-            ["poller", limit] => {
-                self.poller = Some(Poller::new(read_number(limit)?));
-                Some(answer == "-")
-            }
-            ["view"] => {
-                self.poller.as_mut()?.on_view();
-                Some(answer == "-")
-            }
-            ["send", tick, from, standing @ ..] => self.sends(tick, from, standing, answer),
-            ["take", tick, reply @ ..] => self.takes(tick, reply, answer),
-            _ => None,
+            "poller" => self.poller = Some(Poller::new(read_number(words)?)),
+            "view" => self.poller.as_mut()?.on_view(),
+            _ => return None,
         }
+        Some(answer == "-")
     }
 
-    /// Whether the next poll of the poller has that number.
-    fn sends(&mut self, tick: &str, from: &str, standing: &[&str], answer: &str) -> Option<bool> {
-        let [incarnation, install, id, members] = standing else {
-            return None;
-        };
-        let at = Standing {
-            tick: read_number(tick)?,
-            incarnation: read_number(incarnation)?,
-            install: read_number(install)?,
-            view: view_of(id, members)?,
-        };
-        let poller = self.poller.as_mut()?;
-        if poller.count() == u64::MAX {
+    /// Whether the arbiter agrees to a poll or not.
+    fn hears(&mut self, words: &str, answer: &str) -> Option<bool> {
+        let (tick, poll) = first_word(words);
+        let poll = poll_of(poll)?;
+        if poll.from.0 >= 32 {
             return None;
         }
-        Some(poller.poll(read_rank(from)?, at).number == read_number(answer)?)
+        let agrees = self.arbiter.as_mut()?.poll(read_number(tick)?, &poll);
+        Some(agrees == read_truth(answer)?)
     }
+}
 
-    /// Whether the poller takes that from a reply.
-    fn takes(&self, tick: &str, reply: &[&str], answer: &str) -> Option<bool> {
-        let [number, incarnation, install, agrees] = reply else {
-            return None;
-        };
-        let reply = Reply {
-            to: Rank(0),
-            number: read_number(number)?,
-            incarnation: read_number(incarnation)?,
-            install: read_number(install)?,
-            agrees: read_truth(agrees)?,
-        };
-        let taken = self.poller.as_ref()?.reply(read_number(tick)?, &reply);
-        match taken {
-            None => Some(answer == "none"),
-            Some(agrees) => Some(agrees == read_truth(answer)?),
-        }
+/// Whether the next poll of the poller has that number.
+fn sends(poller: &mut Poller, words: &str, answer: &str) -> Option<bool> {
+    let mut words = Words::of(words);
+    let (tick, from) = (words.number()?, words.rank()?);
+    let at = Standing {
+        tick,
+        incarnation: words.number()?,
+        install: words.number()?,
+        view: view_of(words.next()?, words.last()?)?,
+    };
+    if poller.count() == u64::MAX {
+        return None;
+    }
+    Some(poller.poll(from, at).number == read_number(answer)?)
+}
+
+/// Whether the poller takes that from a reply.
+fn takes(poller: &Poller, words: &str, answer: &str) -> Option<bool> {
+    let mut words = Words::of(words);
+    let tick = words.number()?;
+    let reply = Reply {
+        to: Rank(0),
+        number: words.number()?,
+        incarnation: words.number()?,
+        install: words.number()?,
+        agrees: read_truth(words.last()?)?,
+    };
+    match poller.reply(tick, &reply) {
+        None => Some(answer == "none"),
+        Some(agrees) => Some(agrees == read_truth(answer)?),
     }
 }
 
 /// Whether the bytes are read as that, and what was read is written as them.
-fn is_read(bytes: &[u8], alloc: Global, answer: &str) -> Option<bool> {
-    let words: Vec<&str> = answer.split(' ').collect(alloc).ok()?;
+fn is_read(alloc: Global, digits: &str, answer: &str) -> Option<bool> {
+    let bytes = bytes_of(alloc, digits)?;
+    is_packet(bytes.as_slice(), answer)
+}
+
+fn is_packet(bytes: &[u8], answer: &str) -> Option<bool> {
     let mut written = ArrayVec::new();
-    match (words.as_slice(), get_poll(bytes), get_reply(bytes)) {
-        (["none"], None, None) => Some(true),
-        (["poll", wanted @ ..], Some(poll), None) => {
+    let (kind, wanted) = first_word(answer);
+    match (kind, get_poll(bytes), get_reply(bytes)) {
+        ("none", None, None) => Some(true),
+        ("poll", Some(poll), None) => {
             put_poll(&poll, &mut written);
             Some(poll == poll_of(wanted)? && written.as_slice() == bytes)
         }
-        (["reply", wanted @ ..], None, Some(reply)) => {
+        ("reply", None, Some(reply)) => {
             put_reply(&reply, &mut written);
             Some(reply == reply_of(wanted)? && written.as_slice() == bytes)
         }
@@ -129,29 +127,25 @@ fn is_lease(timeout: u64, answer: &str) -> Option<bool> {
     Some(times.limit == read_number(limit)? && times.lease == read_number(lease)?)
 }
 
-fn poll_of(words: &[&str]) -> Option<Poll> {
-    let [from, number, incarnation, install, id, members] = words else {
-        return None;
-    };
+fn poll_of(words: &str) -> Option<Poll> {
+    let mut words = Words::of(words);
     Some(Poll {
-        from: read_rank(from)?,
-        number: read_number(number)?,
-        incarnation: read_number(incarnation)?,
-        install: read_number(install)?,
-        view: view_of(id, members)?,
+        from: words.rank()?,
+        number: words.number()?,
+        incarnation: words.number()?,
+        install: words.number()?,
+        view: view_of(words.next()?, words.last()?)?,
     })
 }
 
-fn reply_of(words: &[&str]) -> Option<Reply> {
-    let [to, number, incarnation, install, agrees] = words else {
-        return None;
-    };
+fn reply_of(words: &str) -> Option<Reply> {
+    let mut words = Words::of(words);
     Some(Reply {
-        to: read_rank(to)?,
-        number: read_number(number)?,
-        incarnation: read_number(incarnation)?,
-        install: read_number(install)?,
-        agrees: read_number(agrees)? == 1,
+        to: words.rank()?,
+        number: words.number()?,
+        incarnation: words.number()?,
+        install: words.number()?,
+        agrees: words.last()? == "1",
     })
 }
 

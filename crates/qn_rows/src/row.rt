@@ -1,7 +1,7 @@
 //! Reads the rows of histories.
 use super::written::is_written;
 use qn_model::What;
-use qn_words::{read_entry, read_number, read_what};
+use qn_words::{Words, read_entry, read_number, read_what};
 use std::alloc::Global;
 
 /// A row of a history: an entry, or a look at a later tick, and what is then known of the node, as it is written.
@@ -20,14 +20,23 @@ pub struct Row<'a> {
 }
 
 /// Reads a row of eight columns, separated by tabs.
-pub fn row_of(alloc: Global, line: &str) -> Option<Row<'_>> {
-    let columns: Vec<&str> = line.split('\t').collect(alloc).ok()?;
-    let [tick, what, outs, why, answer, phase, holds, incarnation] = columns.as_slice() else {
-        return None;
+pub fn row_of(line: &str) -> Option<Row<'_>> {
+    let mut columns = Words::columns(line);
+    let tick = columns.next()?;
+    let what = columns.next()?;
+    let outs = columns.next()?;
+    let why = columns.next()?;
+    let answer = columns.next()?;
+    let phase = columns.next()?;
+    let holds = columns.next()?;
+    let incarnation = columns.last()?;
+    let what = match what {
+        "look" => None,
+        _ => Some(read_what(what)?),
     };
     Some(Row {
         tick: read_number(tick)?,
-        what: entry_of(alloc, what)?,
+        what,
         outs,
         why,
         answer,
@@ -37,16 +46,8 @@ pub fn row_of(alloc: Global, line: &str) -> Option<Row<'_>> {
     })
 }
 
-fn entry_of(alloc: Global, text: &str) -> Option<Option<What>> {
-    if text == "look" {
-        return Some(None);
-    }
-    let words: Vec<&str> = text.split(' ').collect(alloc).ok()?;
-    Some(Some(read_what(words.as_slice())?))
-}
-
 /// Checks the line of an entry and what it is read as, separated by a tab. Whether it is read so.
 pub fn check_entry(alloc: Global, row: &str) -> Option<bool> {
     let (line, wanted) = row.rsplit_once('\t')?;
-    Some(is_written(alloc, &read_entry(alloc, line), wanted))
+    Some(is_written(alloc, &read_entry(line), wanted))
 }

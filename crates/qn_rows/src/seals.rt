@@ -8,8 +8,8 @@
 //!     door KEYS TEXT RANK NODES            a new receiver, to which the rows `came` that follow come
 //!     came TICK BYTES                      take PACKET, unsealed, astray or old
 use arrayvec::ArrayVec;
-use qn_seal::{Key, Keys, Receiver, Refused, Seal, open, put_sealed, text_of};
-use qn_words::{bytes_of, read_byte, read_number, read_rank};
+use qn_seal::{INNER, Key, Keys, Receiver, Refused, Seal, open, put_sealed, text_of};
+use qn_words::{Words, bytes_of, read_byte, read_number, read_rank};
 use std::alloc::Global;
 
 /// A name, and what it stands for.
@@ -19,10 +19,9 @@ struct Named<T: Copy> {
     value: T,
 }
 
-/// What was read so far: how many rows there were, and what they named.
+/// What was named so far, and the present receiver.
 #[derive(Drop)]
 pub struct Seals {
-    pub rows: u64,
     keys: Vec<Named<Key>>,
     texts: Vec<Named<[u8; 32]>>,
     receiver: Option<Receiver>,
@@ -31,7 +30,6 @@ pub struct Seals {
 impl Seals {
     pub fn new(alloc: Global) -> Seals {
         Seals {
-            rows: 0,
             keys: Vec::new(alloc),
             texts: Vec::new(alloc),
             receiver: None,
@@ -40,116 +38,136 @@ impl Seals {
 
     /// Checks a row: whether what comes out is its last field. None where it is no row.
     pub fn check(&mut self, alloc: Global, row: &str) -> Option<bool> {
-        self.rows = self.rows.saturating_add(1);
-        let fields: Vec<&str> = row.split('\t').collect(alloc).ok()?;
-        match fields.as_slice() {
-            ["key", name, file, wanted] => self.key(alloc, name, file, wanted),
-            ["text", name, conf, wanted] => self.text(alloc, name, conf, wanted),
-            ["seal", key, text, head @ .., packet, wanted] => {
-                let (seal, packet) = (seal_of(head)?, bytes_of(alloc, packet)?);
-                self.seals(alloc, key, text, seal, packet.as_slice(), wanted)
-            }
-            ["open", key, text, bytes, wanted] => self.opens(alloc, key, text, bytes, wanted),
-            ["door", keys, text, rank, nodes] => self.begin(keys, text, rank, nodes),
-            ["came", tick, bytes, wanted] => self.takes(alloc, tick, bytes, wanted),
+        let (kind, fields) = row.split_once('\t')?;
+        match kind {
+            "key" => self.key(alloc, fields),
+            "text" => self.text(alloc, fields),
+            "seal" => self.seals(alloc, fields),
+            "open" => self.opens(alloc, fields),
+            "door" => self.begin(fields),
+            "came" => takes(alloc, self.receiver.as_mut()?, fields),
             _ => None,
         }
     }
 
-    fn key(&mut self, alloc: Global, name: &str, file: &str, wanted: &str) -> Option<bool> {
+    fn key(&mut self, alloc: Global, fields: &str) -> Option<bool> {
+        let mut columns = Words::columns(fields);
+        let (name, file, wanted) = (columns.next()?, columns.next()?, columns.last()?);
         let value = Key::new(bytes_of(alloc, file)?.as_slice());
         let name = name.to_owned(alloc).ok()?;
         self.keys.push(Named { name, value }).ok()?;
         let (number, secret) = wanted.split_once(' ')?;
-        let is_number = bytes_of(alloc, number)?.as_slice() == [value.number].as_slice();
-        let is_secret = bytes_of(alloc, secret)?.as_slice() == value.secret.as_slice();
-        Some(is_number && is_secret)
+        Some(
+            is_spelled(alloc, &[value.number], number)?
+                && is_spelled(alloc, &value.secret, secret)?,
+        )
     }
 
-    fn text(&mut self, alloc: Global, name: &str, conf: &str, wanted: &str) -> Option<bool> {
+    fn text(&mut self, alloc: Global, fields: &str) -> Option<bool> {
+        let mut columns = Words::columns(fields);
+        let (name, conf, wanted) = (columns.next()?, columns.next()?, columns.last()?);
         let value = text_of(bytes_of(alloc, conf)?.as_slice());
         let name = name.to_owned(alloc).ok()?;
         self.texts.push(Named { name, value }).ok()?;
-        Some(bytes_of(alloc, wanted)?.as_slice() == value.as_slice())
+        is_spelled(alloc, &value, wanted)
     }
 
-    fn seals(
-        &self,
-        alloc: Global,
-        key: &str,
-        text: &str,
-        seal: Seal,
-        packet: &[u8],
-        wanted: &str,
-    ) -> Option<bool> {
-        let (key, text) = (self.key_of(key)?, self.text_named(text)?);
-        if packet.len() > qn_seal::INNER {
+    fn seals(&self, alloc: Global, fields: &str) -> Option<bool> {
+        let mut columns = Words::columns(fields);
+        let key = columns.next()?;
+        let text = columns.next()?;
+        let from = columns.next()?;
+        let to = columns.next()?;
+        let boot = columns.next()?;
+        let number = columns.next()?;
+        let packet = columns.next()?;
+        let wanted = columns.last()?;
+        let (key, text) = (
+            value_of(self.keys.as_slice(), key)?,
+            value_of(self.texts.as_slice(), text)?,
+        );
+        let seal = seal_of([from, to, boot, number])?;
+        let packet = bytes_of(alloc, packet)?;
+        if packet.len() > INNER {
             return None;
         }
         let mut sealed = ArrayVec::new();
-        put_sealed(&key, &text, &seal, packet, &mut sealed);
-        Some(sealed.as_slice() == bytes_of(alloc, wanted)?.as_slice())
+        put_sealed(&key, &text, &seal, packet.as_slice(), &mut sealed);
+        is_spelled(alloc, sealed.as_slice(), wanted)
     }
 
-    fn opens(
-        &self,
-        alloc: Global,
-        key: &str,
-        text: &str,
-        bytes: &str,
-        wanted: &str,
-    ) -> Option<bool> {
-        let (key, text) = (self.key_of(key)?, self.text_named(text)?);
+    fn opens(&self, alloc: Global, fields: &str) -> Option<bool> {
+        let mut columns = Words::columns(fields);
+        let (key, text, bytes, wanted) = (
+            columns.next()?,
+            columns.next()?,
+            columns.next()?,
+            columns.last()?,
+        );
+        let (key, text) = (
+            value_of(self.keys.as_slice(), key)?,
+            value_of(self.texts.as_slice(), text)?,
+        );
         let bytes = bytes_of(alloc, bytes)?;
-        let opened = open(&key, &text, bytes.as_slice());
-        let Some((head, packet)) = wanted.rsplit_once(' ') else {
-            return Some(opened.is_none() && wanted == "none");
+        let Some((given, inner)) = open(&key, &text, bytes.as_slice()) else {
+            return Some(wanted == "none");
         };
-        let head: Vec<&str> = head.split(' ').collect(alloc).ok()?;
-        let (seal, packet) = (seal_of(head.as_slice())?, bytes_of(alloc, packet)?);
-        Some(opened.is_some_and(|(given, inner)| given == seal && inner == packet.as_slice()))
+        let mut words = Words::of(wanted);
+        let (from, to, boot, number, packet) = (
+            words.next()?,
+            words.next()?,
+            words.next()?,
+            words.next()?,
+            words.last()?,
+        );
+        Some(given == seal_of([from, to, boot, number])? && is_spelled(alloc, inner, packet)?)
     }
 
-    fn begin(&mut self, keys: &str, text: &str, rank: &str, nodes: &str) -> Option<bool> {
+    fn begin(&mut self, fields: &str) -> Option<bool> {
+        let mut columns = Words::columns(fields);
+        let (keys, text, rank, nodes) = (
+            columns.next()?,
+            columns.next()?,
+            columns.next()?,
+            columns.last()?,
+        );
         let mut names = keys.split(',');
         let keys = Keys {
-            first: self.key_of(names.next()?)?,
-            second: names.next().and_then(|name| self.key_of(name)),
-            third: names.next().and_then(|name| self.key_of(name)),
+            first: value_of(self.keys.as_slice(), names.next()?)?,
+            second: value_of(self.keys.as_slice(), names.next().unwrap_or("")),
+            third: value_of(self.keys.as_slice(), names.next().unwrap_or("")),
         };
         let (rank, nodes) = (read_rank(rank)?.0, read_byte(nodes)?);
-        self.receiver = Some(Receiver::new(rank, nodes, keys, self.text_named(text)?));
+        let text = value_of(self.texts.as_slice(), text)?;
+        self.receiver = Some(Receiver::new(rank, nodes, keys, text));
         Some(true)
     }
+}
 
-    fn takes(&mut self, alloc: Global, tick: &str, bytes: &str, wanted: &str) -> Option<bool> {
-        let bytes = bytes_of(alloc, bytes)?;
-        let taken = self
-            .receiver
-            .as_mut()?
-            .take(read_number(tick)?, bytes.as_slice());
-        match taken {
-            Ok(inner) => {
-                let packet = bytes_of(alloc, wanted.strip_prefix("take ")?)?;
-                Some(inner == packet.as_slice())
-            }
-            Err(why) => Some(wanted == word_of(why)),
+/// Whether a receiver takes that from what came.
+fn takes(alloc: Global, receiver: &mut Receiver, fields: &str) -> Option<bool> {
+    let mut columns = Words::columns(fields);
+    let (tick, bytes, wanted) = (columns.next()?, columns.next()?, columns.last()?);
+    let bytes = bytes_of(alloc, bytes)?;
+    match receiver.take(read_number(tick)?, bytes.as_slice()) {
+        Ok(inner) => is_spelled(alloc, inner, wanted.strip_prefix("take ")?),
+        Err(why) => Some(wanted == word_of(why)),
+    }
+}
+
+/// What that name stands for.
+fn value_of<T: Copy>(all: &[Named<T>], name: &str) -> Option<T> {
+    for one in all {
+        if one.name.as_str() == name {
+            return Some(one.value);
         }
     }
+    None
+}
 
-    fn key_of(&self, name: &str) -> Option<Key> {
-        self.keys
-            .iter()
-            .find(|key| key.name.as_str() == name)
-            .map(|key| key.value)
-    }
-
-    fn text_named(&self, name: &str) -> Option<[u8; 32]> {
-        self.texts
-            .iter()
-            .find(|text| text.name.as_str() == name)
-            .map(|text| text.value)
-    }
+/// Whether the bytes are those of these digits.
+fn is_spelled(alloc: Global, bytes: &[u8], digits: &str) -> Option<bool> {
+    Some(bytes_of(alloc, digits)?.as_slice() == bytes)
 }
 
 /// The word of a reason.
@@ -162,10 +180,8 @@ fn word_of(why: Refused) -> &'static str {
 }
 
 /// The four numbers of a seal.
-fn seal_of(words: &[&str]) -> Option<Seal> {
-    let [from, to, boot, number] = words else {
-        return None;
-    };
+fn seal_of(words: [&str; 4]) -> Option<Seal> {
+    let [from, to, boot, number] = words;
     Some(Seal {
         from: read_byte(from)?,
         to: read_byte(to)?,

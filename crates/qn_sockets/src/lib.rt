@@ -33,7 +33,6 @@
 
 mod machine;
 mod node;
-mod place;
 mod ports;
 mod report;
 mod stage;

@@ -16,7 +16,10 @@ pub fn node_step<E: Env>(node: &mut E, port: u16, step: &str) -> Option<bool> {
         "stop" => Some(node.stop().is_ok()),
         "feed" => Some(node.feed().is_ok()),
         "disarm" => Some(node.disarm().is_ok()),
-        "now" => Some(begins_turn(node)),
+        "now" => {
+            let _tick = node.now();
+            Some(true)
+        }
         "send" => sends(node, words),
         "receive" => receives(node, words),
         "silence" => Some(hears_nothing(node)),
@@ -39,11 +42,6 @@ fn opens<E: Env>(node: &mut E, port: u16, words: &str) -> Option<bool> {
         rank: read_rank(rank)?,
     };
     Some(node.open_node(&opening).is_ok())
-}
-
-fn begins_turn<E: Env>(node: &mut E) -> bool {
-    let _tick = node.now();
-    true
 }
 
 fn sends<E: Env>(node: &mut E, words: &str) -> Option<bool> {

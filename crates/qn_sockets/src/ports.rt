@@ -1,5 +1,6 @@
 //! The ports of the nodes, and somebody else who sends to them.
 use super::node::{LONG, numbered};
+use qn_words::{first_word, read_byte, read_size};
 use std::io;
 use std::net::{Ipv4Addr, Net, SocketAddr, SocketAddrV4, UdpSocket};
 
@@ -18,9 +19,9 @@ pub struct Ports {
     /// The port of the node of rank 0.
     pub first: u16,
     /// Who holds the last port of the range, so that no other run of this program takes the same one.
-    stranger: UdpSocket,
+    pub stranger: UdpSocket,
     /// Who holds a port of none of the ranks.
-    outsider: UdpSocket,
+    pub outsider: UdpSocket,
 }
 
 impl Ports {
@@ -48,20 +49,13 @@ impl Ports {
         })
     }
 
-    /// Whether the stranger sends so many bytes to the node of that rank.
-    pub fn send(&self, rank: u8, length: usize) -> bool {
-        self.send_from(&self.stranger, rank, length)
-    }
-
-    /// Whether the outsider does.
-    pub fn send_from_outside(&self, rank: u8, length: usize) -> bool {
-        self.send_from(&self.outsider, rank, length)
-    }
-
-    fn send_from(&self, socket: &UdpSocket, rank: u8, length: usize) -> bool {
+    /// Whether that socket sends so many bytes to the node of that rank, where these are the rank and the number.
+    pub fn sends(&self, from: &UdpSocket, words: &str) -> Option<bool> {
+        let (rank, length) = first_word(words);
+        let to = address(self.first.wrapping_add(u16::from(read_byte(rank)?)));
+        let length = read_size(length)?.min(LONG);
         let bytes = numbered();
-        let to = address(self.first.wrapping_add(u16::from(rank)));
-        socket.send_to(&bytes[..length.min(LONG)], to).is_ok()
+        Some(from.send_to(&bytes[..length], to).is_ok())
     }
 }
 

@@ -31,7 +31,7 @@ impl Report {
         self.tried = self.tried.saturating_add(1);
         self.differ = self.differ.saturating_add(u32::from(self.is_wrong));
         self.is_wrong = false;
-        say_answer(rt, what, answer)
+        println!(rt; "{what}: {answer}")
     }
 
     /// Says how many things were tried, and how many of them differ.
@@ -40,8 +40,4 @@ impl Report {
         let differ = self.differ;
         println!(rt; "tried {tried} differ {differ}")
     }
-}
-
-fn say_answer(rt: &impl Print, what: &str, answer: &str) -> io::Result<()> {
-    println!(rt; "{what}: {answer}")
 }

@@ -1,12 +1,11 @@
 //! Takes the lines of a script.
 use super::machine::Machine;
 use super::node::node_step;
-use super::place::{has, holds, makes_folder};
 use super::ports::Ports;
 use super::report::Report;
 use qn_io::Env;
-use qn_words::{at_fault, first_word, read_byte, read_size, read_small_number, said_of};
-use std::io;
+use qn_words::{at_fault, first_word, read_small_number, said_of};
+use std::{fs, io};
 
 /// The nodes 0, 1 and 2.
 #[derive(Drop)]
@@ -79,32 +78,19 @@ impl<'a> Stage<'a> {
     /// Whether a step holds that is none of a node.
     fn own_step(&self, verb: &str, words: &str) -> Option<bool> {
         match verb {
-            "stranger" => self.stranger(words),
-            "outsider" => self.outsider(words),
+            "stranger" => self.ports.sends(&self.ports.stranger, words),
+            "outsider" => self.ports.sends(&self.ports.outsider, words),
             "pass" => self.pass(words),
             "agent" => self.agent(words),
             "line" => Some(self.machine.answers(words) && self.machine.answers("\n")),
             "text" => Some(self.machine.answers(words)),
             "closes" => Some(self.machine.closes()),
             "asked" => Some(self.machine.was_asked(words)),
-            "folder" => Some(makes_folder(self.rt, words)),
-            "has" => Some(has(self.rt, words)),
+            "folder" => Some(fs::create_dir(self.rt, words).is_ok()),
+            "has" => Some(fs::metadata(self.rt, words).is_ok()),
             "file" => Some(self.file(words)),
             _ => None,
         }
-    }
-
-    fn stranger(&self, words: &str) -> Option<bool> {
-        let (rank, length) = first_word(words);
-        Some(self.ports.send(read_byte(rank)?, read_size(length)?))
-    }
-
-    fn outsider(&self, words: &str) -> Option<bool> {
-        let (rank, length) = first_word(words);
-        Some(
-            self.ports
-                .send_from_outside(read_byte(rank)?, read_size(length)?),
-        )
     }
 
     fn pass(&self, time: &str) -> Option<bool> {
@@ -116,8 +102,9 @@ impl<'a> Stage<'a> {
         Some(self.machine.expect_agent(read_small_number(time)?).is_ok())
     }
 
+    /// Whether a file has a text, where these are its name and the text.
     fn file(&self, words: &str) -> bool {
         let (name, text) = first_word(words);
-        holds(self.rt, name, text)
+        matches!(fs::read_to_string(self.rt, name), Ok(held) if held.as_str() == text)
     }
 }

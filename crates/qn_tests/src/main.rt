@@ -22,6 +22,7 @@ mod part;
 
 use part::run_parts;
 use qn_cases::time_turns;
+use qn_machine::StdSink;
 use qn_words::{at_fault, number_in, said_of};
 use std::{env, io};
 
@@ -44,8 +45,12 @@ fn run_task(
 ) -> io::Result<()> {
     let count = count.as_ref().map_or("0", String::as_str);
     let how = how.as_ref().map_or("one", String::as_str);
-    match task {
-        "turns" => time_turns(rt, number_in(count)?, how),
-        _ => Err(at_fault("no task of that name")),
+    if task != "turns" {
+        return Err(at_fault("no task of that name"));
+    }
+    let mut out = StdSink::new(io::writer(rt), rt);
+    match time_turns(rt.alloc(), number_in(count)?, how, &mut out) {
+        Some(()) => Ok(()),
+        None => Err(at_fault("no run of a node")),
     }
 }

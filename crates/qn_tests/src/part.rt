@@ -9,19 +9,6 @@ use std::io;
 /// What begins the line at which a part begins. The name of the part follows.
 const PART: &str = "part ";
 
-/// What the lines of a part are.
-#[derive(Clone, Copy)]
-enum Part {
-    /// Rows through public calls.
-    Rows,
-    /// Runs of a node, call by call.
-    Nodes,
-    /// Runs of `top` over an outside of which calls fail.
-    Faults,
-    /// Nodes over real files and sockets.
-    Sockets,
-}
-
 /// Runs the parts that standard input has, in their order.
 pub fn run_parts(rt: &HostRuntime) -> io::Result<()> {
     let text = io::read_to_string(rt.alloc(), rt.reader())?;
@@ -35,30 +22,13 @@ pub fn run_parts(rt: &HostRuntime) -> io::Result<()> {
     Ok(())
 }
 
-/// Runs the part of that name.
+/// Takes the lines of the part of that name, and writes what comes of them.
 fn run_part(rt: &HostRuntime, name: &str, lines: &str) -> io::Result<()> {
-    Part::named(name)?.run(rt, lines)
-}
-
-impl Part {
-    /// The part of that name.
-    fn named(name: &str) -> io::Result<Part> {
-        match name {
-            "rows" => Ok(Part::Rows),
-            "nodes" => Ok(Part::Nodes),
-            "faults" => Ok(Part::Faults),
-            "sockets" => Ok(Part::Sockets),
-            _ => Err(at_fault("no part of that name")),
-        }
-    }
-
-    /// Takes the lines of the part, and writes what comes of them.
-    fn run(self, rt: &HostRuntime, lines: &str) -> io::Result<()> {
-        match self {
-            Part::Rows => check_rows(rt, lines),
-            Part::Nodes => run_cases(rt, lines),
-            Part::Faults => run_script(rt, lines),
-            Part::Sockets => play(rt, lines),
-        }
+    match name {
+        "rows" => check_rows(rt, lines),
+        "nodes" => run_cases(rt, lines),
+        "faults" => run_script(rt, lines),
+        "sockets" => play(rt, lines),
+        _ => Err(at_fault("no part of that name")),
     }
 }

@@ -21,16 +21,11 @@
 //!     ask FROM TO INCARNATION INSTALL ID MEMBERS
 //!     tell FROM TO INCARNATION INSTALL ID MEMBERS HOLDS RELEASED
 //!
-//! Promises: a line is one of settings or of a rank exactly where it begins so; a number and a truth are read
-//! exactly where the text spells one; settings are read only where each of their words begins with a key. Of the rest
-//! nothing is promised but an answer: the value, or none where a line or a part of it is none of a history.
+//! Promises: nothing but an answer: the value, or none where a line or a part of it is none of a history.
 mod entries;
-mod heads;
-mod keys;
 mod packets;
 mod settings;
 
 pub use entries::{read_entry, read_what};
-pub use heads::{rank_word, settings_words};
 pub use packets::{read_ask, read_tell};
-pub use settings::read_settings;
+pub use settings::{read_settings, settings_words};

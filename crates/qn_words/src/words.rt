@@ -1,15 +1,83 @@
-//! What lines are made of: their words, and the numbers, ids, ranks, truths, members, bytes and texts that words are.
-ghost use Rattle.std.specs.Prelude.{◌≡◌, ◌<◌, ◌^◌, ℕ, Bool, Some, IfSome, IsSome};
-ghost use Rattle.qn_base.specs.Decimal.{number_of};
-ghost use Rattle.qn_base.specs.Text.{yes_no};
-
-use qn_base::{Mask, NodeId, Rank, Said, Standing, View, read_decimal};
+//! What lines are made of: their words, and the numbers, ranks, truths, members, bytes and texts that words are.
+use qn_base::{Mask, Rank, Said, Standing, View, read_decimal};
 use std::alloc::{AllocError, Global};
 use std::io::{self, ErrorKind};
 
 /// The first word, and what follows it.
 pub fn first_word(words: &str) -> (&str, &str) {
     words.split_once(' ').unwrap_or((words, ""))
+}
+
+/// The parts of a line that follow, each up to the next separator.
+#[derive(Clone, Copy)]
+pub struct Words<'a> {
+    rest: Option<&'a str>,
+    separator: char,
+}
+
+impl<'a> Words<'a> {
+    /// The words of a line, separated by spaces.
+    pub fn of(line: &'a str) -> Words<'a> {
+        Words {
+            rest: Some(line),
+            separator: ' ',
+        }
+    }
+
+    /// The columns of a row, separated by tabs.
+    pub fn columns(row: &'a str) -> Words<'a> {
+        Words {
+            rest: Some(row),
+            separator: '\t',
+        }
+    }
+
+    /// The next part, where there is one.
+    pub fn next(&mut self) -> Option<&'a str> {
+        let rest = self.rest?;
+        match rest.split_once(self.separator) {
+            Some((word, rest)) => {
+                self.rest = Some(rest);
+                Some(word)
+            }
+            None => {
+                self.rest = None;
+                Some(rest)
+            }
+        }
+    }
+
+    /// The next part, a number of 64 bits.
+    pub fn number(&mut self) -> Option<u64> {
+        read_number(self.next()?)
+    }
+
+    /// The next part, a rank.
+    pub fn rank(&mut self) -> Option<Rank> {
+        read_rank(self.next()?)
+    }
+
+    /// What stands after that key in the next part.
+    pub fn value(&mut self, key: &str) -> Option<&'a str> {
+        self.next()?.strip_prefix(key)
+    }
+
+    /// What stands after that key in the next part, or this where no part follows.
+    pub fn value_or(&mut self, key: &str, absent: &'static str) -> Option<&'a str> {
+        match self.next() {
+            Some(part) => part.strip_prefix(key),
+            None => Some(absent),
+        }
+    }
+
+    /// The next part, where it is the last one.
+    pub fn last(&mut self) -> Option<&'a str> {
+        let word = self.next()?;
+        match self.rest {
+            Some(_) => None,
+            None => Some(word),
+        }
+    }
 }
 
 /// The text that stands in a line with `|` for each end of a line.
@@ -44,18 +112,12 @@ pub fn number_in(word: &str) -> io::Result<u64> {
 }
 
 /// A number of 64 bits.
-pub fn read_number(word: &str) -> Option<u64>
-    ensures { result ≡ number_of word.now }
-{
+pub fn read_number(word: &str) -> Option<u64> {
     read_decimal(word.as_bytes())
 }
 
 /// A number of 32 bits.
-pub fn read_small_number(word: &str) -> Option<u32>
-    ensures value { IfSome result (λ number. number_of word.now ≡ Some number) }
-    ensures succeeds { (number : ℕ) → number_of word.now ≡ Some number → number < 2 ^ 32
-        → IsSome result }
-{
+pub fn read_small_number(word: &str) -> Option<u32> {
     u32::try_from(read_number(word)?).ok()
 }
 
@@ -64,38 +126,18 @@ pub fn read_size(word: &str) -> Option<usize> {
     Some(read_small_number(word)? as usize)
 }
 
-/// The id of a node: a number of 32 bits.
-pub fn read_node_id(word: &str) -> Option<NodeId>
-    ensures value { IfSome result (λ id. number_of word.now ≡ Some id.0) }
-    ensures succeeds { (number : ℕ) → number_of word.now ≡ Some number → number < 2 ^ 32
-        → IsSome result }
-{
-    Some(NodeId(read_small_number(word)?))
-}
-
 /// A number of 8 bits.
-pub fn read_byte(word: &str) -> Option<u8>
-    ensures value { IfSome result (λ byte. number_of word.now ≡ Some byte) }
-    ensures succeeds { (number : ℕ) → number_of word.now ≡ Some number → number < 2 ^ 8
-        → IsSome result }
-{
+pub fn read_byte(word: &str) -> Option<u8> {
     u8::try_from(read_number(word)?).ok()
 }
 
 /// A rank: a number of 8 bits. One that is no rank of a mask, 32 or more, may stand in an entry that does not fit.
-pub fn read_rank(word: &str) -> Option<Rank>
-    ensures value { IfSome result (λ rank. number_of word.now ≡ Some rank.0) }
-    ensures succeeds { (number : ℕ) → number_of word.now ≡ Some number → number < 2 ^ 8
-        → IsSome result }
-{
+pub fn read_rank(word: &str) -> Option<Rank> {
     Some(Rank(read_byte(word)?))
 }
 
 /// `yes` or `no`.
-pub fn read_truth(word: &str) -> Option<bool>
-    ensures value { IfSome result (λ truth. word.now ≡ yes_no truth) }
-    ensures succeeds { (truth : Bool) → word.now ≡ yes_no truth → IsSome result }
-{
+pub fn read_truth(word: &str) -> Option<bool> {
     match word {
         "yes" => Some(true),
         "no" => Some(false),
@@ -104,9 +146,7 @@ pub fn read_truth(word: &str) -> Option<bool>
 }
 
 /// A view: its number and its members.
-pub fn read_view(id: &str, members: &str) -> Option<View>
-    ensures id { IfSome result (λ view. number_of id.now ≡ Some view.id) }
-{
+pub fn read_view(id: &str, members: &str) -> Option<View> {
     let id = read_number(id)?;
     let members = read_members(members)?;
     Some(View { id, members })

@@ -1,10 +1,13 @@
 //! The steps that are read, and what they set.
 use super::nobody::Nobody;
-use qn_doubles::{Counts, Loss, MemSink, MemSource, Outside, input_of, output_of};
+use qn_doubles::{Counts, Heard, Loss, MemSink, MemSource, Outside, input_of, output_of};
 use qn_top::top;
 use qn_words::{at_fault, first_word, number_in, said_of, text_of};
 use std::alloc::{AllocError, Global};
 use std::{io, str};
+
+/// The Hello of the node of rank 1.
+const HELLO: [u8; 4] = [b'Q', b'N', 3, 1];
 
 /// How the streams of a run behave: in pieces of how many bytes the input comes, and which read of it fails; for how many bytes
 /// the output has room, and which write of it fails. Numbers count from 1.
@@ -72,7 +75,7 @@ impl Script {
         match kind {
             "outside" => self.outside = Outside::new(alloc)?,
             "clock" => self.outside.ticks = numbers,
-            "hello" => self.outside.says_hello = true,
+            "hello" => self.outside.heard = vec![in alloc; Heard::packet(&HELLO)]?,
             "byte" => self.outside.put(numbers.as_slice()),
             "input" => self.input = text_of(alloc, text)?,
             "streams" => self.streams = streams_of(numbers.as_slice()),
