@@ -8,7 +8,7 @@
 //!     door KEYS TEXT RANK NODES            a new receiver, to which the rows `came` that follow come
 //!     came TICK BYTES                      take PACKET, unsealed, astray or old
 use arrayvec::ArrayVec;
-use qn_seal::{Key, Keys, Receiver, Refused, Seal, open, put_sealed, text_of};
+use qn_seal::{Key, Keys, Receiver, Refused, Seal, Texts, open, put_sealed, text_of};
 use qn_words::{bytes_of, read_byte, read_number, read_rank};
 use std::alloc::Global;
 
@@ -118,7 +118,11 @@ impl Seals {
             third: names.next().and_then(|name| self.key_of(name)),
         };
         let (rank, nodes) = (read_rank(rank)?.0, read_byte(nodes)?);
-        self.receiver = Some(Receiver::new(rank, nodes, keys, self.text_named(text)?));
+        let texts = Texts {
+            first: self.text_named(text)?,
+            second: None,
+        };
+        self.receiver = Some(Receiver::new(rank, nodes, keys, texts));
         Some(true)
     }
 
