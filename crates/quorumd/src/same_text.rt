@@ -75,7 +75,8 @@ impl<'text, S: Source + Drop, E: Eprint + Drop> SameText<'text, S, E> {
 }
 
 impl<'text, S: Source + Drop, E: Eprint + Drop> Source for SameText<'text, S, E> {
-    ghost use Rattle.std.specs.Prelude.{None, OnErr};
+    ghost use Rattle.std.specs.Prelude.{◌≡◌, ◌<◌, [], None, OnErr, take};
+    ghost use Rattle.std.specs.Io.KnownBytes.{IsAtEnd, prepend_known};
     ghost use Rattle.qn_io.specs.Outside.{HasRisen};
 
     ghost faults = { λ s. s.faults };
@@ -84,13 +85,18 @@ impl<'text, S: Source + Drop, E: Eprint + Drop> Source for SameText<'text, S, E>
 
     fn read(&mut self, into: &mut [u8]) -> Result<usize, Failed>
         ensures within { IfOk result (λ n. n ≤ length into.new) }
+        ensures takes { IfOk result (λ n. None ≡ prepend_known (take n into.new) None) }
+        ensures end { IfOk result (λ n. n ≡ 0 → 0 < length into.new → IsAtEnd None) }
+        ensures untaken { OnErr result (None ≡ prepend_known [] None) }
         ensures never_falls { self.old.faults ≤ self.new.faults }
         ensures cause { OnErr result (HasRisen self.old.faults self.new.faults) }
     {
-        let read = self.read_same(into);
-        if read.is_err() {
-            self.faults = self.faults.saturating_add(1);
+        match self.read_same(into) {
+            Ok(count) => Ok(count),
+            Err(Failed) => {
+                self.faults = self.faults.saturating_add(1);
+                Err(Failed)
+            }
         }
-        read
     }
 }
