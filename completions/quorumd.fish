@@ -9,7 +9,7 @@ function __quorumd_takes
     switch "$argv"
         case quorumd
             set -g __quorumd_commands 'count	which of several views has the majority' 'replay	what a cluster does, event by event' 'status	how each node stands after a schedule' 'soak	what so many events, drawn from a seed, come to' 'create	makes the disk image of a cluster' 'dump	the header of an image' 'list	the nodes of an image, with their messages' 'message	leaves a message to a node' 'node	runs a node of the cluster' 'migrate	brings an image of version 1 to version 2' 'replay3	what a cluster does on three images, event by event' 'node3	runs a node of the cluster on three images' 'replay-arbiter	what a cluster does beside an arbiter, event by event' 'node-logged	the same as node, with a line for each of its calls' 'audit	whether the record of a node is a run of it' 'node3-logged	the same as node3, with a line for each of its calls' 'arbiter	answers the nodes of the cluster, as its quorum device' 'help	the names of the commands'
-            set -g __quorumd_options --links/file/--links/CONF --key/file//FILE --open//--open/ --halt/file/--halt/FILE --status/file/--status/FILE --leave-file/file/--leave-file/FILE --blank//--blank/ --anew//--anew/
+            set -g __quorumd_options --links/file/--links/CONF --key/file//FILE --open//--open/ --seal-meaning//--seal-meaning/ --halt/file/--halt/FILE --status/file/--status/FILE --leave-file/file/--leave-file/FILE --blank//--blank/ --anew//--anew/
         case 'quorumd status'
             set -g __quorumd_options '--form/words text json/--form/text|json'
         case 'quorumd soak'

@@ -213,7 +213,7 @@ class TripleCluster(Cluster):
 class Node:
     """A node that was started. What it says is kept in files."""
 
-    def __init__(self, cluster, ident, watchdog=None, resource=None, image=None, port=None, more=(), before=None, turns=TURNS, run_as=(), errors=None):
+    def __init__(self, cluster, ident, watchdog=None, resource=None, image=None, port=None, more=(), before=None, turns=TURNS, run_as=(), errors=None, conf="conf"):
         self.cluster, self.ident = cluster, ident
         given_paths = {"watchdog": watchdog, "resource": resource}
         words = {
@@ -234,7 +234,7 @@ class Node:
         number = cluster.started
         self.log, self.answer = cluster.folder / ("log.%d" % number), cluster.folder / ("answer.%d" % number)
         options = [word for name, value in self.words.items() for word in ("--" + name, value)]
-        with open(cluster.folder / "conf") as settings, open(self.log, "w") as log, open(self.answer, "w") as answer:
+        with open(cluster.folder / conf) as settings, open(self.log, "w") as log, open(self.answer, "w") as answer:
             self.process = subprocess.Popen([*run_as, QUORUMD, *before, cluster.COMMAND, *options, *more], stdin=settings, stdout=answer, stderr=errors or log, env=PLAIN)
         STARTED.append(self.process)
 

@@ -1,4 +1,5 @@
-"""Keys that are changed by restarts, while somebody holds: one node after the other leaves clean and comes back with the keys of the next step."""
+"""What seals packets is changed by restarts, while somebody holds: one node after the other leaves clean and comes back with the keys of the next step,
+or with another settings text."""
 import threading
 
 from live import same, wait_for
@@ -26,10 +27,10 @@ def without(ident):
     return [other for other in IDS if other != ident]
 
 
-def rotate(cluster, start):
-    """Nodes 1 to 3, by `start(ident, *keys)`: never do two hold, nobody is reset, and each restart costs one view without the node that is away,
+def rotate(cluster, start, steps=STEPS):
+    """Nodes 1 to 3, by `start(ident, *step)`: never do two hold, nobody is reset, and each restart costs one view without the node that is away,
     and one with it again. The least node that is there leads, and announces them."""
-    runs = {ident: [start(ident, *STEPS[0])] for ident in IDS}
+    runs = {ident: [start(ident, *steps[0])] for ident in IDS}
     runs[1][0].waits_for("start: ok")
     end, twice = threading.Event(), []
 
@@ -45,20 +46,21 @@ def rotate(cluster, start):
     watcher = threading.Thread(target=watches)
     watcher.start()
     sees(1, [1, 2, 3])
-    for keys in STEPS[1:]:
+    rounds = len(steps) - 1
+    for step in steps[1:]:
         for ident in reversed(IDS):
             cluster.message(ident, "exit")
             status, said = runs[ident][-1].end()
             same("answer", (status, said.splitlines()[-1]), (0, "left clean"))
             sees(without(ident)[0], without(ident))
-            runs[ident].append(start(ident, *keys))
+            runs[ident].append(start(ident, *step))
             sees(1, [1, 2, 3])
             wait_for("somebody holds", lambda: "held" in [cluster.resource(each) for each in IDS])
     end.set()
     watcher.join()
     same("two held", twice, [])
-    same("nobody was reset", [cluster.listed(ident) for ident in IDS], ["incarnation 4 dirty mail empty"] * 3)
+    same("nobody was reset", [cluster.listed(ident) for ident in IDS], ["incarnation %d dirty mail empty" % (rounds + 1)] * 3)
     led = [[1, 2, 3], [1, 2], [1, 2, 3], [1, 3], [1, 2, 3]]
-    same("views of node 1", [announced(run) for run in runs[1]], [led, led, led, [[1, 2, 3]]])
-    same("views of node 2", [announced(run) for run in runs[2]], [[], [[2, 3]], [[2, 3]], [[2, 3]]])
-    same("views of node 3", [announced(run) for run in runs[3]], [[]] * 4)
+    same("views of node 1", [announced(run) for run in runs[1]], [led] * rounds + [[[1, 2, 3]]])
+    same("views of node 2", [announced(run) for run in runs[2]], [[]] + [[[2, 3]]] * rounds)
+    same("views of node 3", [announced(run) for run in runs[3]], [[]] * (rounds + 1))

@@ -11,6 +11,7 @@ import time
 
 from live import QUORUMD, STARTED, event_of, free_ports, same, try_all, wait_for
 from polls import poll, reply, sealed
+from meaning import SEAL_MEANING, address, fields, node_bytes, tag_of
 
 SEATS = 33
 TIMEOUT = 500
@@ -144,6 +145,30 @@ def under_a_key():
     same("one poll alone was taken", arbiter.status()["polls"], 1)
 
 
+def with_the_meaning():
+    """It is asked beside the bytes of its text, and answers beside what that says."""
+    port = free_ports(SEATS)
+    folder = pathlib.Path("meaning")
+    folder.mkdir()
+    key = folder / "key"
+    key.write_bytes(os.urandom(64))
+    key.chmod(0o600)
+    conf = conf_of(host="127.0.2.9", address="127.0.2.%d")
+    (folder / "conf").write_text(conf)
+    Arbiter("means", conf, port, before=("--links", str(folder / "conf"), "--key", str(key), SEAL_MEANING)).opened()
+    nodes = node_bytes(1, "127.0.2.1") + node_bytes(2, "127.0.2.2")
+    device = bytes([1]) + fields((4, 1), (8, TIMEOUT)) + bytes([1]) + address("127.0.2.9") + bytes(2)
+    said = b"QNTEXT01" + bytes([2]) + nodes + bytes(3) + fields((8, 10000), (8, 3)) + device + bytes(1)
+    secret = hashlib.sha256(key.read_bytes()).digest()
+    node = socket.socket(socket.AF_INET, socket.SOCK_DGRAM)
+    node.bind(("127.0.2.2", port + 1))
+    node.settimeout(10)
+    for number, text in enumerate((conf.encode(), said)):
+        node.sendto(sealed(secret, hashlib.sha256(text).digest(), 1, 32, number + 1, poll(1, number, 2)), ("127.0.2.9", port + 32))
+        answer = node.recv(200)
+        same("the tag of the reply", answer[-32:], tag_of(key.read_bytes(), said, answer[:-32]))
+
+
 def ended(words, conf):
     done = subprocess.run([QUORUMD, *words], input=conf, capture_output=True, text=True, check=False, timeout=60)
     return done.returncode, done.stdout, done.stderr
@@ -173,4 +198,4 @@ def what_it_does_not_open_with():
         same("a node with it: " + line, ended(["--open", "--links", str(conf), "help"], text)[0], 0)
 
 
-try_all(one_side_at_a_time, nobody_else_is_answered, under_a_key, what_it_does_not_open_with)
+try_all(one_side_at_a_time, nobody_else_is_answered, under_a_key, with_the_meaning, what_it_does_not_open_with)

@@ -44,7 +44,7 @@ class LinkedCluster(Cluster):
 
     def linked(self, ident, *keys, conf="conf"):
         before = ["--links", str(self.folder / conf), *(word for key in keys or ("old",) for word in ("--key", str(self.folder / key)))]
-        return Node(self, ident, before=before, run_as=("nsenter", "-t", str(NAMESPACES[ident].pid), "-n"))
+        return Node(self, ident, before=before, run_as=("nsenter", "-t", str(NAMESPACES[ident].pid), "-n"), conf=conf)
 
 
 def without_losses(node):

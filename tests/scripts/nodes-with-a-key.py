@@ -49,12 +49,12 @@ def take_over():
     same("said", [node.said()[1:] for node in nodes], [["start: ok"], ["start: ok"], []])
 
 
-def apart(name, before):
+def apart(name, before, conf="conf"):
     """Node 3 is alone: the others do without it, and reset it."""
     cluster = KeyCluster(name)
     text = (cluster.folder / "conf").read_text()
     (cluster.folder / "other").write_text(text + "# another text\n")
-    nodes = [cluster.sealed(1), cluster.sealed(2), cluster.node(3, before=before(cluster))]
+    nodes = [cluster.sealed(1), cluster.sealed(2), cluster.node(3, before=before(cluster), conf=conf)]
     same("node 3", nodes[2].end(), (13, "fault SelfReset reset\n"))
     nodes[0].waits_for("start: ok")
     same("nodes 1 and 2", [without_losses(node) for node in nodes[:2]], [["start: ok"], []])
@@ -67,7 +67,7 @@ def another_key():
 
 
 def another_text():
-    apart("text", lambda cluster: cluster.words("old", conf="other"))
+    apart("text", lambda cluster: cluster.words("old", conf="other"), conf="other")
 
 
 def no_key():

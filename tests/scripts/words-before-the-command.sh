@@ -68,6 +68,16 @@ for path in '' "$(head -c 4091 /dev/zero | tr '\0' x)"; do
 done
 says '--leave-file: given twice' --leave-file a --leave-file b node
 says '--leave-file stands before a node alone' --leave-file a help
+says '--seal-meaning: given twice' --seal-meaning --links conf --seal-meaning node
+for command in help create 'audit --id 1 --turns 1' ''; do
+    says '--seal-meaning stands before a node or an arbiter alone' --links conf --key one --seal-meaning $command
+done
+for command in node node3 node-logged node3-logged arbiter; do
+    for words in '' '--links conf --open' '--key one'; do
+        says '--seal-meaning wants --links and --key' $words --seal-meaning $command
+    done
+done
+says '--links wants --key or --open' --links conf --seal-meaning node
 says '--key: more than three' --key one --key two --key three --key four help
 says '--open beside --key' --open --key one help
 says '--open beside --key' --key one --open help
@@ -75,7 +85,7 @@ says '--links wants --key or --open' --links conf help
 says '--links wants --key or --open' --halt file --links conf
 for word in --links --key --halt --status --leave-file; do
     says "$word: its value is missing" "$word"
-    for next in --links --key --open --halt --status --leave-file --blank --anew; do
+    for next in --links --key --open --seal-meaning --halt --status --leave-file --blank --anew; do
         says "$word: its value is missing" "$word" "$next" conf help
     done
 done

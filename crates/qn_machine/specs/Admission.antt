@@ -31,7 +31,7 @@ names_other bytes sender = nat_lt 4 (length bytes) && not (slice_index bytes 4 =
 abbrev pub IsOpened : Option Receiver → ℕ → List ℕ → List ℕ → Type 0
 IsOpened None tick bytes inner = inner ≡ bytes
 IsOpened (Some receiver) tick bytes inner =
-    judged receiver tick (opened_by receiver.keys receiver.text bytes) ≡ Ok inner
+    judged receiver tick (opened_by receiver.keys receiver.texts bytes) ≡ Ok inner
 
 -- the sender that a sealed packet names is the node of that address and port
 abbrev pub IsSealedBy : Option Receiver → Peers → List ℕ → IpAddr → ℕ → Type 0
@@ -45,7 +45,7 @@ IsOfSender admission bytes ip port = IsSealedBy admission.receiver admission.pee
 abbrev pub receiver_after_taking : Option Receiver → ℕ → List ℕ → Option Receiver
 receiver_after_taking None tick bytes = None
 receiver_after_taking (Some receiver) tick bytes =
-    Some (receiver_after receiver tick (opened_by receiver.keys receiver.text bytes))
+    Some (receiver_after receiver tick (opened_by receiver.keys receiver.texts bytes))
 
 -- a datagram of that sender that is not its own: a vote, a request of this host, or sealed by another
 abbrev pub is_foreign : Option Receiver → ℕ → List ℕ → Bool
@@ -57,7 +57,7 @@ abbrev pub IsSealRefused : Option Receiver → ℕ → List ℕ → Reason → T
 IsSealRefused None tick bytes why = ⊥
 IsSealRefused (Some receiver) tick bytes Elsewhere = ⊥
 IsSealRefused (Some receiver) tick bytes (Sealed why) =
-    judged receiver tick (opened_by receiver.keys receiver.text bytes) ≡ Err why
+    judged receiver tick (opened_by receiver.keys receiver.texts bytes) ≡ Err why
 
 -- why a datagram is not handed on: whichever other node has that address and port, it is foreign to it; or the receiver of seals says so
 abbrev pub IsRefused : Admission → ℕ → IpAddr → ℕ → List ℕ → Reason → Type 0

@@ -1,6 +1,6 @@
 //! What of the outside is said before the command: where the nodes are, what guards their packets, what is told of a halt, and what asks a node to leave.
 use crate::named_file::Absent;
-use qn_seal::{Keys, text_of};
+use qn_seal::{Keys, Texts, text_of};
 use std::net::IpAddr;
 
 /// The most nodes of a cluster.
@@ -45,7 +45,7 @@ pub struct Edge {
     pub arbiter: Option<ArbiterAt>,
     pub guard: Guard,
     /// What stands for the settings text in a tag.
-    pub text: [u8; 32],
+    pub texts: Texts,
     /// The path of a file that is told of a halt.
     pub halt: Option<String>,
     /// The path of a file with which this host asks its node to leave.
@@ -60,7 +60,10 @@ impl Edge {
             addresses: None,
             arbiter: None,
             guard: Guard::Unsaid,
-            text: text_of(&[]),
+            texts: Texts {
+                first: text_of(&[]),
+                second: None,
+            },
             halt: None,
             leave: None,
             overwrites: Overwrites::Files,

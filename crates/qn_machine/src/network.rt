@@ -79,8 +79,8 @@ impl Network {
         let (receiver, sealing) = match edge.guard {
             Guard::Unsaid | Guard::ClosedNetwork => (None, None),
             Guard::Sealed(keys) => (
-                Some(Receiver::new(rank.0, peers.count(), keys, edge.text)),
-                Some(Sealing::new(rt, keys.first, edge.text, rank)?),
+                Some(Receiver::new(rank.0, peers.count(), keys, edge.texts)),
+                Some(Sealing::new(rt, keys.first, edge.texts.first, rank)?),
             ),
         };
         Ok(Network {

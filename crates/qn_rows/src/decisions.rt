@@ -51,7 +51,7 @@ pub fn check_decision(alloc: Global, row: &str) -> Option<bool> {
         return None;
     };
     let count = u8::try_from(votes.split(',').count()).ok()?;
-    let settings = settings_with(count, read_number(enough)?, votes)?;
+    let settings = settings_where(count, read_number(enough)?, votes)?;
     let me = read_rank(me)?;
     let mut member = NamingMember::new(&settings, me, LOOP);
     let begins = Beginning {

@@ -82,24 +82,24 @@ fn view_of(text: &str) -> Option<Option<View>> {
 /// A new view maker.
 fn maker_of(words: &str) -> Option<Member> {
     let mut words = Words::of(words);
-    let (nodes, me, loop_ms) = (words.next()?, words.rank()?, words.number()?);
+    let (count, me, loop_ms) = (read_byte(words.next()?)?, words.rank()?, words.number()?);
     let settings = match words.next() {
-        None => settings_of(nodes, ONE_EACH, false, read_number(nodes)?)?,
-        Some(enough) => settings_where(nodes, read_number(enough)?, words.last()?)?,
+        None => settings_of(count, ONE_EACH, false, u64::from(count))?,
+        Some(enough) => settings_where(count, read_number(enough)?, words.last()?)?,
     };
     Some(Member::new(&settings, me, loop_ms))
 }
 
 /// Settings of so many nodes, of these votes, where a side needs so many, 0 for two_node.
-pub(crate) fn settings_where(nodes: &str, enough: u64, votes: &str) -> Option<Settings> {
+pub(crate) fn settings_where(count: u8, enough: u64, votes: &str) -> Option<Settings> {
     let expected = enough.saturating_sub(1).saturating_mul(2);
-    settings_of(nodes, votes, enough == 0, expected)
+    settings_of(count, votes, enough == 0, expected)
 }
 
 /// Settings of so many nodes, of these votes, with two_node or not, where so many votes are expected.
-fn settings_of(count: &str, votes: &str, two_node: bool, expected: u64) -> Option<Settings> {
+fn settings_of(count: u8, votes: &str, two_node: bool, expected: u64) -> Option<Settings> {
     let mut nodes = Nodes::new();
-    for (id, votes) in (1..=read_byte(count)?).zip(votes.split(',')) {
+    for (id, votes) in (1..=count).zip(votes.split(',')) {
         if nodes.is_full() {
             return None;
         }

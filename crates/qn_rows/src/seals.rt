@@ -8,7 +8,7 @@
 //!     door KEYS TEXT RANK NODES            a new receiver, to which the rows `came` that follow come
 //!     came TICK BYTES                      take PACKET, unsealed, astray or old
 use arrayvec::ArrayVec;
-use qn_seal::{INNER, Key, Keys, Receiver, Refused, Seal, open, put_sealed, text_of};
+use qn_seal::{Key, Keys, Receiver, Refused, Seal, Texts, open, put_sealed, text_of};
 use qn_words::{Words, bytes_of, read_byte, read_number, read_rank};
 use std::alloc::Global;
 
@@ -138,8 +138,11 @@ impl Seals {
             third: value_of(self.keys.as_slice(), names.next().unwrap_or("")),
         };
         let (rank, nodes) = (read_rank(rank)?.0, read_byte(nodes)?);
-        let text = value_of(self.texts.as_slice(), text)?;
-        self.receiver = Some(Receiver::new(rank, nodes, keys, text));
+        let texts = Texts {
+            first: value_of(self.texts.as_slice(), text)?,
+            second: None,
+        };
+        self.receiver = Some(Receiver::new(rank, nodes, keys, texts));
         Some(true)
     }
 }

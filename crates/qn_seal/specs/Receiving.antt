@@ -2,6 +2,7 @@
 use Rattle.std.specs.Prelude.{ℕ, Bool, true, not, bit_or, ◌+◌, ◌-◌, ◌*◌, ◌/◌, ◌%◌, ◌^◌, ◌&&◌, ◌||◌, ◌==◌, nat_le, nat_lt, List, length, slice_index, slice_index_or, slice_set, Option, Some, None, Result, Ok, Err, if◌then◌else◌}
 use Rattle.qn_seal.specs.declared.keys.Key.{Key}
 use Rattle.qn_seal.specs.declared.keys.Keys.{Keys}
+use Rattle.qn_seal.specs.declared.keys.Texts.{Texts}
 use Rattle.qn_seal.specs.declared.seals.Seal.{Seal}
 use Rattle.qn_seal.specs.declared.receiver.Newest.{Newest}
 use Rattle.qn_seal.specs.declared.receiver.Receiver.{Receiver}
@@ -57,11 +58,20 @@ abbrev pub first_of : Option (Seal × List ℕ) → Option (Seal × List ℕ) �
 first_of None other = other
 first_of (Some found) other = Some found
 
--- what the first key that opens the bytes gives
-unfoldable pub opened_by : Keys → List ℕ → List ℕ → Option (Seal × List ℕ)
-opened_by keys text bytes =
+-- what the first key that opens the bytes beside that text gives
+unfoldable pub opened_beside : Keys → List ℕ → List ℕ → Option (Seal × List ℕ)
+opened_beside keys text bytes =
     first_of (opened keys.first text bytes)
     (first_of (opened_with keys.second text bytes) (opened_with keys.third text bytes))
+
+-- the same beside a text, where there is that text
+abbrev pub opened_beside_other : Keys → Option (List ℕ) → List ℕ → Option (Seal × List ℕ)
+opened_beside_other keys None bytes = None
+opened_beside_other keys (Some text) bytes = opened_beside keys text bytes
+
+-- what the keys give beside the first of the texts that a key opens the bytes beside
+unfoldable pub opened_by : Keys → Texts → List ℕ → Option (Seal × List ℕ)
+opened_by keys texts bytes = first_of (opened_beside keys texts.first bytes) (opened_beside_other keys texts.second bytes)
 
 -- of another configured node or of the arbiter, whose seat is 32, to this one
 abbrev pub is_for : Receiver → Seal → Bool
@@ -111,6 +121,6 @@ receiver_after receiver tick (Some parts) =
       rank = receiver.rank;
       nodes = receiver.nodes;
       keys = receiver.keys;
-      text = receiver.text;
+      texts = receiver.texts;
       newest = slice_set receiver.newest parts.0.from (Some (newest_after (slice_index_or receiver.newest parts.0.from None) parts.0 tick));
     }

@@ -40,14 +40,28 @@ pub struct Keys {
 
 impl Keys {
     ghost use Rattle.std.specs.Prelude.{◌≡◌, ◌≤◌, length, option_map, IfSome};
-    ghost use Rattle.qn_seal.specs.Receiving.{opened_by};
+    ghost use Rattle.qn_seal.specs.Receiving.{opened_beside, opened_by};
 
-    /// What the first key that opens these bytes beside that text gives: the seal, and the packet in it.
+    /// What the first key that opens these bytes gives, beside the first of the texts where one does and else beside the second: the seal, and the
+    /// packet in it.
     #[tactic(auto, unfolding(crate::specs::Receiving::opened_by))]
-    pub fn open<'a>(&self, text: &[u8; 32], from: &'a [u8]) -> Option<(Seal, &'a [u8])>
+    pub fn open<'a>(&self, texts: &Texts, from: &'a [u8]) -> Option<(Seal, &'a [u8])>
         ensures long { IfSome result (λ parts. 4 ≤ length parts.1.now) }
         ensures gives { option_map (λ parts. (parts.0, parts.1.now)) result
-            ≡ opened_by self.now text.now from.now }
+            ≡ opened_by self.now texts.now from.now }
+    {
+        if let Some(found) = self.open_beside(&texts.first, from) {
+            return Some(found);
+        }
+        self.open_beside(texts.second.as_ref()?, from)
+    }
+
+    /// What the first key that opens these bytes beside that text gives.
+    #[tactic(auto, unfolding(crate::specs::Receiving::opened_beside))]
+    fn open_beside<'a>(&self, text: &[u8; 32], from: &'a [u8]) -> Option<(Seal, &'a [u8])>
+        ensures long { IfSome result (λ parts. 4 ≤ length parts.1.now) }
+        ensures gives { option_map (λ parts. (parts.0, parts.1.now)) result
+            ≡ opened_beside self.now text.now from.now }
     {
         if let Some(found) = open(&self.first, text, from) {
             return Some(found);
@@ -59,6 +73,13 @@ impl Keys {
         }
         open(self.third.as_ref()?, text, from)
     }
+}
+
+/// What stands for the settings text of a node in its tags, in two forms: it seals beside the first, and opens beside each.
+#[derive(Clone, Copy)]
+pub struct Texts {
+    pub first: [u8; 32],
+    pub second: Option<[u8; 32]>,
 }
 
 /// What stands for a settings text in a tag: its digest.

@@ -2,7 +2,7 @@
 ghost use Rattle.std.specs.Prelude.{◌≡◌, ◌≤◌, ◌<◌, ◌-◌, length};
 ghost use Rattle.qn_seal.specs.Receiving.{is_forgotten, is_inner, is_newer_than, is_of_rank, is_poll, is_reply, is_taken, newest_after, seen_after};
 
-use crate::keys::Keys;
+use crate::keys::{Keys, Texts};
 use crate::seals::Seal;
 
 /// The seat of the arbiter, one above those of the ranks.
@@ -28,14 +28,14 @@ pub struct Newest {
 }
 
 /// What a node takes: packets of other ranks below `nodes` and replies of the arbiter, whose seat is 32, to its own `rank`, under one of
-/// its keys beside the text, each once, and none that is 64 numbers or more behind the greatest of its sender. The arbiter, as rank 32,
+/// its keys beside one of its texts, each once, and none that is 64 numbers or more behind the greatest of its sender. The arbiter, as rank 32,
 /// takes polls of ranks alone.
 #[derive(Drop)]
 pub struct Receiver {
     pub rank: u8,
     pub nodes: u8,
     pub keys: Keys,
-    pub text: [u8; 32],
+    pub texts: Texts,
     pub newest: [Option<Newest>; SEATS],
 }
 
@@ -130,16 +130,16 @@ impl Receiver {
     ghost use Rattle.qn_seal.specs.Receiving.{is_for, judged, opened_by, receiver_after};
 
     /// A receiver that has heard nobody.
-    pub fn new(rank: u8, nodes: u8, keys: Keys, text: [u8; 32]) -> Receiver
+    pub fn new(rank: u8, nodes: u8, keys: Keys, texts: Texts) -> Receiver
         ensures own { (result.rank ≡ rank) × (result.nodes ≡ nodes) }
-        ensures secrets { (result.keys ≡ keys) × (result.text ≡ text) }
+        ensures secrets { (result.keys ≡ keys) × (result.texts ≡ texts) }
         ensures silent { result.newest ≡ replicate 33 None }
     {
         Receiver {
             rank,
             nodes,
             keys,
-            text,
+            texts,
             newest: [None; SEATS],
         }
     }
@@ -156,14 +156,14 @@ impl Receiver {
     /// The packet in these bytes, where it is taken at that tick. Only a packet that is taken changes anything.
     pub fn take<'a>(&mut self, tick: u64, from: &'a [u8]) -> Result<&'a [u8], Refused>
         ensures taken { IfOk result (λ inner.
-            judged self.old tick (opened_by self.old.keys self.old.text from.now) ≡ Ok inner.now) }
+            judged self.old tick (opened_by self.old.keys self.old.texts from.now) ≡ Ok inner.now) }
         ensures refused { IfErr result (λ why.
-            judged self.old tick (opened_by self.old.keys self.old.text from.now) ≡ Err why) }
+            judged self.old tick (opened_by self.old.keys self.old.texts from.now) ≡ Err why) }
         ensures moved { OnOk result (self.new
-            ≡ receiver_after self.old tick (opened_by self.old.keys self.old.text from.now)) }
+            ≡ receiver_after self.old tick (opened_by self.old.keys self.old.texts from.now)) }
         ensures same { OnErr result (self.new ≡ self.old) }
     {
-        let Some((seal, inner)) = self.keys.open(&self.text, from) else {
+        let Some((seal, inner)) = self.keys.open(&self.texts, from) else {
             return Err(Refused::Unsealed);
         };
         if !self.is_for(seal) || !is_inner(seal, inner) {

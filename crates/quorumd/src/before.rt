@@ -1,5 +1,5 @@
-//! The words before the command: `--links CONF`, `--key FILE` up to three times, `--open`, `--halt FILE`, `--status FILE`, `--leave-file FILE`, `--blank`
-//! and `--anew`, in any order.
+//! The words before the command: `--links CONF`, `--key FILE` up to three times, `--open`, `--seal-meaning`, `--halt FILE`, `--status FILE`,
+//! `--leave-file FILE`, `--blank` and `--anew`, in any order.
 use crate::edge::ARBITER;
 use std::fmt;
 use std::fmt::Display;
@@ -7,8 +7,8 @@ use std::fmt::Display;
 /// The most words of `--key`.
 pub const MOST_KEYS: usize = 3;
 
-/// The most words that may stand before the command: two for each but `--open`, `--blank` and `--anew`.
-const MOST_WORDS: u32 = 17;
+/// The most words that may stand before the command: two for each but `--open`, `--seal-meaning`, `--blank` and `--anew`.
+const MOST_WORDS: u32 = 18;
 
 /// What the words before the command say.
 #[derive(Clone, Copy, Default)]
@@ -16,6 +16,7 @@ pub struct Before<'words> {
     pub links: Option<&'words str>,
     pub keys: [Option<&'words str>; MOST_KEYS],
     pub is_open: bool,
+    pub seals_meaning: bool,
     pub halt: Option<&'words str>,
     pub status: Option<&'words str>,
     pub leave: Option<&'words str>,
@@ -33,6 +34,8 @@ pub enum WordFault<'words> {
     FourthKey,
     OpenBesideKey,
     NeitherKeyNorOpen,
+    MeaningWithoutNode,
+    MeaningWithoutText,
     StatusWithoutNode,
     StatusPath,
     LeaveWithoutNode,
@@ -48,6 +51,12 @@ impl<'words> Display for WordFault<'words> {
             WordFault::FourthKey => f.write_str("--key: more than three"),
             WordFault::OpenBesideKey => f.write_str("--open beside --key"),
             WordFault::NeitherKeyNorOpen => f.write_str("--links wants --key or --open"),
+            WordFault::MeaningWithoutNode => {
+                f.write_str("--seal-meaning stands before a node or an arbiter alone")
+            }
+            WordFault::MeaningWithoutText => {
+                f.write_str("--seal-meaning wants --links and --key")
+            }
             WordFault::StatusWithoutNode => {
                 f.write_str("--status stands before a node or an arbiter alone")
             }
@@ -65,6 +74,7 @@ enum Word {
     Links,
     Key,
     Open,
+    SealMeaning,
     Halt,
     Status,
     LeaveFile,
@@ -79,6 +89,7 @@ impl Word {
             "--links" => Some(Word::Links),
             "--key" => Some(Word::Key),
             "--open" => Some(Word::Open),
+            "--seal-meaning" => Some(Word::SealMeaning),
             "--halt" => Some(Word::Halt),
             "--status" => Some(Word::Status),
             "--leave-file" => Some(Word::LeaveFile),
@@ -116,6 +127,7 @@ impl<'words> Before<'words> {
         self.count = self.count.saturating_add(1);
         match word {
             Word::Open => return say_once(&mut self.is_open, text),
+            Word::SealMeaning => return say_once(&mut self.seals_meaning, text),
             Word::Blank => return say_once(&mut self.is_blank, text),
             Word::Anew => return say_once(&mut self.is_anew, text),
             Word::Links | Word::Key | Word::Halt | Word::Status | Word::LeaveFile => {}
@@ -131,7 +143,7 @@ impl<'words> Before<'words> {
             Word::Status => put_once(&mut self.status, text, value),
             Word::LeaveFile => put_once(&mut self.leave, text, value),
             Word::Key => self.key(value),
-            Word::Open | Word::Blank | Word::Anew => Ok(()),
+            Word::Open | Word::SealMeaning | Word::Blank | Word::Anew => Ok(()),
         }
     }
 
@@ -153,6 +165,9 @@ impl<'words> Before<'words> {
         if self.leave.is_some() && !is_node(command) {
             return Err(WordFault::LeaveWithoutNode);
         }
+        if self.seals_meaning && !is_running(command) {
+            return Err(WordFault::MeaningWithoutNode);
+        }
         if self.is_blank && command != "create" {
             return Err(WordFault::BlankWithoutCreate);
         }
@@ -167,12 +182,15 @@ impl<'words> Before<'words> {
         if self.links.is_some() && !self.is_open && !has_key {
             return Err(WordFault::NeitherKeyNorOpen);
         }
+        if self.seals_meaning && (self.links.is_none() || !has_key) {
+            return Err(WordFault::MeaningWithoutText);
+        }
         Ok(self)
     }
 }
 
 /// Whether a command runs a node or an arbiter.
-fn is_running(command: &str) -> bool {
+pub fn is_running(command: &str) -> bool {
     is_node(command) || command == ARBITER
 }
 

@@ -1,12 +1,16 @@
-//! Reads the files that the words before the command name: the addresses and the digest of a settings text, and keys. Of the first that
+//! Reads the files that the words before the command name: the addresses and the digests of a settings text, and keys. Of the first that
 //! is wrong a line on standard error says what is; nothing was opened then but these files.
 use crate::PROGRAM;
 use crate::before::{Before, MOST_KEYS};
+use crate::same_text::Text;
 use qn_commands::Fault;
 use qn_conf::{MOST_TEXT_BYTES, Tree, read_tree};
-use qn_links::{ArbiterPlace, Links, arbiter_of, device_of, links_of, sections_of};
+use qn_links::{
+    ArbiterPlace, Links, Meaning, arbiter_of, device_of, links_of, meaning_of, sections_of,
+};
 use qn_machine::{ArbiterAt, Edge, Guard, Overwrites};
-use qn_seal::{Key, Keys, text_of};
+use qn_model::Settings;
+use qn_seal::{Key, Keys, Texts, text_of};
 use qn_settings::settings;
 use qn_usage::{NO_MEMORY, USAGE};
 use std::fmt::Display;
@@ -23,12 +27,12 @@ const MOST_KEY: u64 = 4096;
 /// The command that runs an arbiter.
 pub const ARBITER: &str = "arbiter";
 
-/// What of the outside these words say before that command, or the status to end with.
-pub fn edge_of<R: Files<File = File> + AllocGlobal + Eprint>(
+/// What of the outside these words say before that command, and the settings text that was read; or the status to end with.
+pub fn edge_of<'words, R: Files<File = File> + AllocGlobal + Eprint>(
     rt: &R,
-    before: &Before<'_>,
+    before: &Before<'words>,
     command: &str,
-) -> Result<Edge, u8> {
+) -> Result<(Edge, Option<Text<'words>>), u8> {
     let mut edge = Edge::local();
     if before.is_anew {
         edge.overwrites = Overwrites::Anything;
@@ -46,17 +50,65 @@ pub fn edge_of<R: Files<File = File> + AllocGlobal + Eprint>(
         None if before.is_open => Guard::ClosedNetwork,
         None => Guard::Unsaid,
     };
-    if let Some(path) = before.links {
-        let text = read_file(rt, path, MOST_TEXT_BYTES as u64 + 1)?;
-        edge.text = text_of(text.as_slice());
-        let tree = read_whole(rt, path, text.as_slice())?;
-        let links = read_links(rt, path, &tree)?;
-        if command == ARBITER {
-            edge.arbiter = Some(read_arbiter(rt, path, &tree, &links)?);
+    let text = match before.links {
+        Some(path) => {
+            let bytes = read_file(rt, path, MOST_TEXT_BYTES as u64 + 1)?;
+            let text = Text { path, bytes };
+            take_text(rt, before, &text, command, &mut edge)?;
+            Some(text)
         }
-        edge.addresses = Some(links);
+        None => None,
+    };
+    Ok((edge, text))
+}
+
+/// Takes what a settings text says: where the nodes are, before an arbiter where that is, and what stands for the text in a tag.
+fn take_text<R: AllocGlobal + Eprint>(
+    rt: &R,
+    before: &Before<'_>,
+    text: &Text<'_>,
+    command: &str,
+    edge: &mut Edge,
+) -> Result<(), u8> {
+    let (path, bytes) = (text.path, text.bytes.as_slice());
+    let tree = read_whole(rt, path, bytes)?;
+    let settings = read_settings(rt, path, &tree)?;
+    let links = read_links(rt, path, &tree, &settings)?;
+    let net = device_of(rt.alloc(), &tree).map_err(|_| NO_MEMORY)?;
+    let arbiter = arbiter_of(net, &links);
+    edge.texts = texts_of(before, bytes, &settings, &links, arbiter.ok());
+    if command == ARBITER {
+        let place = arbiter.map_err(|fault| refuse(rt, path, fault))?;
+        let ArbiterPlace { address, port } = place;
+        edge.arbiter = Some(ArbiterAt { address, port });
     }
-    Ok(edge)
+    edge.addresses = Some(links);
+    Ok(())
+}
+
+/// What stands for a settings text in a tag: what is sealed beside is its bytes, or what it says where that was said before the command. The
+/// other one is opened too.
+fn texts_of(
+    before: &Before<'_>,
+    text: &[u8],
+    settings: &Settings,
+    links: &Links,
+    arbiter: Option<ArbiterPlace>,
+) -> Texts {
+    let mut said = Meaning::new();
+    meaning_of(settings, links, arbiter, &mut said);
+    let (bytes, meaning) = (text_of(text), text_of(said.as_slice()));
+    if before.seals_meaning {
+        Texts {
+            first: meaning,
+            second: Some(bytes),
+        }
+    } else {
+        Texts {
+            first: bytes,
+            second: Some(meaning),
+        }
+    }
 }
 
 /// Says what is wrong with a file, and gives the status to end with. That it cannot be said is no fault.
@@ -164,26 +216,22 @@ fn read_whole<'text, R: AllocGlobal + Eprint>(
     read_tree(rt.alloc(), text).map_err(|fault| refuse_text(rt, path, Fault::BadConf(fault)))
 }
 
-/// Where the arbiter of nodes at these places is.
-fn read_arbiter<R: AllocGlobal + Eprint>(
+/// The settings of a settings text.
+fn read_settings<R: AllocGlobal + Eprint>(
     rt: &R,
     path: &str,
     tree: &Tree<'_>,
-    links: &Links,
-) -> Result<ArbiterAt, u8> {
-    let net = device_of(rt.alloc(), tree).map_err(|_| NO_MEMORY)?;
-    let place = arbiter_of(net, links).map_err(|fault| refuse(rt, path, fault))?;
-    let ArbiterPlace { address, port } = place;
-    Ok(ArbiterAt { address, port })
+) -> Result<Settings, u8> {
+    settings(tree).map_err(|fault| refuse_text(rt, path, Fault::BadSettings(fault)))
 }
 
-/// The addresses that a settings text gives.
-fn read_links<R: AllocGlobal + Eprint>(rt: &R, path: &str, tree: &Tree<'_>) -> Result<Links, u8> {
-    let settings = settings(tree).map_err(|fault| refuse_text(
-        rt,
-        path,
-        Fault::BadSettings(fault),
-    ))?;
+/// The addresses that a settings text of these settings gives.
+fn read_links<R: AllocGlobal + Eprint>(
+    rt: &R,
+    path: &str,
+    tree: &Tree<'_>,
+    settings: &Settings,
+) -> Result<Links, u8> {
     let sections = sections_of(rt.alloc(), tree).map_err(|_| NO_MEMORY)?;
     if sections.iter().any(|section| section.has_second) {
         let _ = eprintln!(rt; "{PROGRAM}: ring1_addr is not used");

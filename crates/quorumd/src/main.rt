@@ -9,8 +9,9 @@
 
 mod before;
 mod edge;
+mod same_text;
 
-use before::{Before, WordFault};
+use before::{Before, WordFault, is_running};
 use edge::edge_of;
 use qn_base::read_decimal;
 use qn_io::put_all;
@@ -21,6 +22,7 @@ use qn_usage::{
     BEFORE, NO_MEMORY, QUORUMD, USAGE, WRITE_FAULT, help_text, refusal_of, version_text,
     words_given,
 };
+use same_text::{SameText, Text};
 use std::fs::File;
 use std::process::{self, ExitCode};
 use std::rt::{Env, Files};
@@ -51,7 +53,8 @@ fn main(rt: HostRuntime) -> ExitCode {
 fn run(rt: &HostRuntime, said: Outside<'_>, words: &[String]) -> u8 {
     let host = SteadyHost::new(rt);
     let lines = Lines::new(id_in(words), is_in_journal(rt));
-    let mut input = StdSource::new(rt.reader(), lines.over(rt));
+    let input = StdSource::new(rt.reader(), lines.over(rt));
+    let mut input = SameText::new(input, lines.over(rt), said.text.as_ref());
     let mut out = StdSink::new(io::writer(rt), lines.over(rt));
     let mut env = RealEnv::new(SteadyHost::new(rt), said.edge, &lines);
     let mut journal = journal_of(&host, process::id(rt.process()), &lines, said.status);
@@ -87,11 +90,13 @@ fn is_in_journal(rt: &(impl Env + AllocGlobal)) -> bool {
     env::var(rt, "JOURNAL_STREAM").is_ok()
 }
 
-/// What the words before the command say of the outside, and the path of the status file, which can be one.
+/// What the words before the command say of the outside, the path of the status file, which can be one, and the settings text that is to come on
+/// standard input.
 #[derive(Drop)]
 struct Outside<'words> {
     edge: Edge,
     status: Option<&'words str>,
+    text: Option<Text<'words>>,
 }
 
 /// What the words before the command say, and the words after them; or the status to end with.
@@ -108,8 +113,9 @@ fn before_command<'words, R: Files<File = File> + AllocGlobal + Eprint>(
     let count = before.count.min(words.len());
     let words = words.split_at(count).1;
     let command = words.first().map_or("", String::as_str);
-    let edge = edge_of(rt, &before, command)?;
-    Ok((Outside { edge, status }, words))
+    let (edge, text) = edge_of(rt, &before, command)?;
+    let text = text.filter(|_| is_running(command));
+    Ok((Outside { edge, status, text }, words))
 }
 
 /// Whether the status can be put into a file of that path, where nothing but a file is replaced; or the status to end with.
