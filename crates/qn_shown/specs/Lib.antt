@@ -1,4 +1,5 @@
 pub mod Words
+pub mod Groups
 pub mod Kinds
 pub mod Fits
 pub mod Entries

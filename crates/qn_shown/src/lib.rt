@@ -5,6 +5,7 @@
 #![tactic(auto)]
 
 mod fault;
+mod group;
 mod keys;
 mod kinds;
 mod laws;
@@ -15,8 +16,9 @@ mod shown;
 mod words;
 
 pub use fault::ShownFault;
+pub use group::Group;
 pub use laws::{law_shown_read_back, law_words_read_back};
 pub use reading::read_shown;
 pub use short_string::ShortString;
-pub use shown::{Counts, Mailbox, Peer, Shown, ShownView};
+pub use shown::{Counts, Heard, Mailbox, Peer, Shown, ShownView, Told};
 pub use words::MailState;
