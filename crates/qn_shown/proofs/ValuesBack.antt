@@ -68,7 +68,7 @@ group_number_fits Stuck = omega arith
 group_number_fits Maintenance = omega arith
 group_number_fits Unattended = omega arith
 
-group_of_back : (group : Group) → group_of (group_number group) ≡ Some group
+pub group_of_back : (group : Group) → group_of (group_number group) ≡ Some group
 group_of_back NoGroup = refl
 group_of_back Down = refl
 group_of_back Looking = refl

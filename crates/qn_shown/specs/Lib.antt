@@ -6,3 +6,4 @@ pub mod Entries
 pub mod Spelling
 pub mod Reading
 pub mod LineWords
+pub mod Telling
