@@ -54,7 +54,7 @@ fn run(rt: &HostRuntime, said: Outside<'_>, words: &[String]) -> u8 {
     let mut input = StdSource::new(rt.reader(), lines.over(rt));
     let mut out = StdSink::new(io::writer(rt), lines.over(rt));
     let mut env = RealEnv::new(SteadyHost::new(rt), said.edge, &lines);
-    let mut journal = journal_of(&host, process::id(rt.process()), &lines, said.status);
+    let mut journal = journal_of(&host, process::id(rt.process()), &lines, said.files);
     let status = top(
         rt.alloc(),
         words,
@@ -69,16 +69,16 @@ fn run(rt: &HostRuntime, said: Outside<'_>, words: &[String]) -> u8 {
     status
 }
 
-/// The journal of a node, of the process of that number, with the status file of that path.
+/// The journal of a node, of the process of that number, with the files of these paths.
 #[inline(never)]
 fn journal_of<'a, 'host>(
     host: &'a SteadyHost<'host>,
     pid: u32,
     lines: &'a Lines,
-    path: Option<&str>,
+    files: NodeFiles<'a>,
 ) -> Journal<'a, SteadyHost<'host>> {
-    let status = path.and_then(ReplacedFile::at);
-    Journal::new(host, lines, status, pid)
+    let status = files.status.and_then(ReplacedFile::at);
+    Journal::new(host, lines, status, files.group, pid)
 }
 
 /// Whether standard error goes to systemd's journal.
@@ -87,11 +87,18 @@ fn is_in_journal(rt: &(impl Env + AllocGlobal)) -> bool {
     env::var(rt, "JOURNAL_STREAM").is_ok()
 }
 
-/// What the words before the command say of the outside, and the path of the status file, which can be one.
+/// The paths of the status file, which can be one, and of the file in which a supervisor says how the group is.
+#[derive(Clone, Copy)]
+struct NodeFiles<'words> {
+    status: Option<&'words str>,
+    group: Option<&'words str>,
+}
+
+/// What the words before the command say of the outside, and of the files of a node.
 #[derive(Drop)]
 struct Outside<'words> {
     edge: Edge,
-    status: Option<&'words str>,
+    files: NodeFiles<'words>,
 }
 
 /// What the words before the command say, and the words after them; or the status to end with.
@@ -104,12 +111,15 @@ fn before_command<'words, R: Files<File = File> + AllocGlobal + Eprint>(
     if let Some(path) = before.status {
         check_status(rt, path)?;
     }
-    let status = before.status;
+    let files = NodeFiles {
+        status: before.status,
+        group: before.group,
+    };
     let count = before.count.min(words.len());
     let words = words.split_at(count).1;
     let command = words.first().map_or("", String::as_str);
     let edge = edge_of(rt, &before, command)?;
-    Ok((Outside { edge, status }, words))
+    Ok((Outside { edge, files }, words))
 }
 
 /// Whether the status can be put into a file of that path, where nothing but a file is replaced; or the status to end with.
