@@ -1,6 +1,8 @@
 //! Whose word counts of how a node is: its own live file, else what it told a node with one, lately.
 ghost use Rattle.std.specs.Prelude.{◌≡◌};
-ghost use Rattle.qn_verdict.specs.Voices.{are_all_told, has_longer, has_other, has_voice, is_contested, is_contested_in, is_fresh, is_heard, is_held, is_held_twice, is_held_twice_in, is_here, is_in_service, is_leaving, is_live, is_longer, is_peer_well, is_said, is_said_in, is_voice_well, is_wanted, is_well, told_voice, voice_of};
+ghost use Rattle.std.specs.List.{list_all, list_any};
+ghost use Rattle.qn_verdict.specs.Files.{members_of};
+ghost use Rattle.qn_verdict.specs.Voices.{are_all_told, are_paired, has_partner, has_voice, is_contested, is_fresh, is_heard, is_held, is_held_twice, is_here, is_in_service, is_leaving, is_live, is_longer, is_paired_in, is_partner_told, is_peer_well, is_said, is_said_in, is_teller, is_told, is_voice_well, is_wanted, is_well, partner_of, told_voice, voice_of};
 
 use crate::file::{is_quiet, is_stale, loop_of, members, miss_time};
 use qn_base::NodeId;
@@ -16,6 +18,8 @@ pub struct Voice {
     pub held_ms: u64,
     pub holds: bool,
     pub leaving: bool,
+    /// The loop of the node that knows it, in milliseconds.
+    pub loop_ms: u32,
     pub quorate: bool,
     /// When that was said, in milliseconds of the clock of the host that knows it.
     pub tick: u64,
@@ -28,8 +32,16 @@ enum Wanted {
     Holder,
     /// Of a node that holds, and is another one than this.
     OtherHolder(Voice),
-    /// Of such a one that held before this, and went on over two loops after this began to: with the loop in milliseconds.
-    LongerHolder(u32, Voice),
+    /// Of such a one that held before this, and went on over two loops after this began to.
+    LongerHolder(Voice),
+}
+
+/// Two nodes that hold.
+#[derive(Clone, Copy)]
+enum Pair {
+    Two,
+    /// Not one after the other.
+    TwoAtATime,
 }
 
 /// Whether the file says what is so now.
@@ -49,6 +61,7 @@ pub fn voice_of(file: &Shown) -> Voice
         held_ms: file.held_ms.unwrap_or(0),
         holds: file.holds,
         leaving: is_leaving(file.phase),
+        loop_ms: loop_of(file),
         quorate: file.answer.quorate,
         tick: file.tick,
     }
@@ -93,6 +106,7 @@ pub fn told_voice(now: u64, files: &[Shown], file: &Shown, peer: &Peer) -> Optio
                     held_ms: told.held_ms,
                     holds: told.holds,
                     leaving: told.leaving,
+                    loop_ms: loop_of(file),
                     quorate: told.quorate,
                     tick,
                 })
@@ -104,11 +118,12 @@ pub fn told_voice(now: u64, files: &[Shown], file: &Shown, peer: &Peer) -> Optio
 }
 
 /// Whether it holds at least as long as the other, and said so over two loops after the other began to.
-fn is_longer(loop_ms: u32, voice: Voice, other: Voice) -> bool
-    ensures { result ≡ is_longer loop_ms voice other }
+fn is_longer(voice: Voice, other: Voice) -> bool
+    ensures { result ≡ is_longer voice other }
 {
     let began = other.tick.saturating_sub(other.held_ms);
-    other.held_ms <= voice.held_ms && 2 * u64::from(loop_ms) < voice.tick.saturating_sub(began)
+    other.held_ms <= voice.held_ms
+        && 2 * u64::from(other.loop_ms) < voice.tick.saturating_sub(began)
 }
 
 /// Whether a voice is the one that is looked for.
@@ -118,10 +133,28 @@ fn is_wanted(wanted: Wanted, voice: Voice) -> bool
     match wanted {
         Wanted::Holder => voice.holds,
         Wanted::OtherHolder(other) => voice.holds && voice.id.0 != other.id.0,
-        Wanted::LongerHolder(loop_ms, other) => {
-            voice.holds && voice.id.0 != other.id.0 && is_longer(loop_ms, voice, other)
+        Wanted::LongerHolder(other) => {
+            voice.holds && voice.id.0 != other.id.0 && is_longer(voice, other)
         }
     }
+}
+
+fn is_told(now: u64, files: &[Shown], wanted: Wanted, file: &Shown, peer: &Peer) -> bool
+    ensures { result ≡ is_told now files.now wanted file.now peer.now }
+{
+    match told_voice(now, files, file, peer) {
+        Some(voice) => is_wanted(wanted, voice),
+        None => false,
+    }
+}
+
+fn is_any_told(now: u64, files: &[Shown], wanted: Wanted, file: &Shown) -> bool
+    ensures { result ≡ list_any (is_told now files.now wanted file.now) file.now.peers.items }
+{
+    file.peers
+        .as_slice()
+        .iter()
+        .any(|peer| is_told(now, files, wanted, file, peer))
 }
 
 /// Whether a live node, or one that told it, says what is wanted.
@@ -129,15 +162,7 @@ fn is_said_in(now: u64, files: &[Shown], wanted: Wanted, file: &Shown) -> bool
     ensures { result ≡ is_said_in now files.now wanted file.now }
 {
     is_live(now, file)
-        && (is_wanted(wanted, voice_of(file))
-            || file
-                .peers
-                .as_slice()
-                .iter()
-                .any(|peer| match told_voice(now, files, file, peer) {
-                    Some(voice) => is_wanted(wanted, voice),
-                    None => false,
-                }))
+        && (is_wanted(wanted, voice_of(file)) || is_any_told(now, files, wanted, file))
 }
 
 /// Whether a node of these files, or one that told one of these, says what is wanted.
@@ -156,79 +181,93 @@ pub fn is_held(now: u64, files: &[Shown]) -> bool
     is_said(now, files, Wanted::Holder)
 }
 
-/// Whether it holds, and another node does too.
-fn has_other(now: u64, files: &[Shown], voice: Voice) -> bool
-    ensures { result ≡ has_other now files.now voice }
+/// With whom a holder is such a pair.
+fn partner_of(pair: Pair, voice: Voice) -> Wanted
+    ensures { result ≡ partner_of pair voice }
 {
-    voice.holds && is_said(now, files, Wanted::OtherHolder(voice))
+    match pair {
+        Pair::Two => Wanted::OtherHolder(voice),
+        Pair::TwoAtATime => Wanted::LongerHolder(voice),
+    }
 }
 
-/// Whether it holds, and another node held before and went on for over two loops.
-fn has_longer(now: u64, files: &[Shown], loop_ms: u32, voice: Voice) -> bool
-    ensures { result ≡ has_longer now files.now loop_ms voice }
+fn has_partner(now: u64, files: &[Shown], pair: Pair, voice: Voice) -> bool
+    ensures { result ≡ has_partner now files.now pair voice }
 {
-    voice.holds && is_said(now, files, Wanted::LongerHolder(loop_ms, voice))
+    voice.holds && is_said(now, files, partner_of(pair, voice))
 }
 
-fn is_held_twice_in(now: u64, files: &[Shown], file: &Shown) -> bool
-    ensures { result ≡ is_held_twice_in now files.now file.now }
+fn is_partner_told(now: u64, files: &[Shown], pair: Pair, file: &Shown, peer: &Peer) -> bool
+    ensures { result ≡ is_partner_told now files.now pair file.now peer.now }
+{
+    match told_voice(now, files, file, peer) {
+        Some(voice) => has_partner(now, files, pair, voice),
+        None => false,
+    }
+}
+
+fn is_any_partner_told(now: u64, files: &[Shown], pair: Pair, file: &Shown) -> bool
+    ensures { result
+        ≡ list_any (is_partner_told now files.now pair file.now) file.now.peers.items }
+{
+    file.peers
+        .as_slice()
+        .iter()
+        .any(|peer| is_partner_told(now, files, pair, file, peer))
+}
+
+fn is_paired_in(now: u64, files: &[Shown], pair: Pair, file: &Shown) -> bool
+    ensures { result ≡ is_paired_in now files.now pair file.now }
 {
     is_live(now, file)
-        && (has_other(now, files, voice_of(file))
-            || file
-                .peers
-                .as_slice()
-                .iter()
-                .any(|peer| match told_voice(now, files, file, peer) {
-                    Some(voice) => has_other(now, files, voice),
-                    None => false,
-                }))
+        && (has_partner(now, files, pair, voice_of(file))
+            || is_any_partner_told(now, files, pair, file))
+}
+
+fn are_paired(now: u64, files: &[Shown], pair: Pair) -> bool
+    ensures { result ≡ are_paired now files.now pair }
+{
+    files
+        .iter()
+        .any(|file| is_paired_in(now, files, pair, file))
 }
 
 /// Whether two nodes hold, by their own words.
 pub fn is_held_twice(now: u64, files: &[Shown]) -> bool
     ensures { result ≡ is_held_twice now files.now }
 {
-    files
-        .iter()
-        .any(|file| is_held_twice_in(now, files, file))
-}
-
-fn is_contested_in(now: u64, files: &[Shown], file: &Shown) -> bool
-    ensures { result ≡ is_contested_in now files.now file.now }
-{
-    let loop_ms = loop_of(file);
-    is_live(now, file)
-        && (has_longer(now, files, loop_ms, voice_of(file))
-            || file
-                .peers
-                .as_slice()
-                .iter()
-                .any(|peer| match told_voice(now, files, file, peer) {
-                    Some(voice) => has_longer(now, files, loop_ms, voice),
-                    None => false,
-                }))
+    are_paired(now, files, Pair::Two)
 }
 
 /// Whether two nodes hold at a time, and not one after the other.
 pub fn is_contested(now: u64, files: &[Shown]) -> bool
     ensures { result ≡ is_contested now files.now }
 {
-    files
-        .iter()
-        .any(|file| is_contested_in(now, files, file))
+    are_paired(now, files, Pair::TwoAtATime)
 }
 
 /// Whether a node has a live file, or told this one lately.
 pub fn has_voice(now: u64, files: &[Shown], file: &Shown, id: NodeId) -> bool
     ensures { result ≡ has_voice now files.now file.now id }
 {
-    is_here(now, files, id)
-        || file
-            .peers
-            .as_slice()
-            .iter()
-            .any(|peer| peer.id.0 == id.0 && told_voice(now, files, file, peer).is_some())
+    is_here(now, files, id) || has_told(now, files, file, id)
+}
+
+/// Whether the node of that id told this one lately, and has no live file.
+fn has_told(now: u64, files: &[Shown], file: &Shown, id: NodeId) -> bool
+    ensures { result ≡ list_any (is_teller now files.now file.now id) file.now.peers.items }
+{
+    file.peers
+        .as_slice()
+        .iter()
+        .any(|peer| is_teller(now, files, file, id, peer))
+}
+
+/// Whether the peer of that id told the node how it is.
+fn is_teller(now: u64, files: &[Shown], file: &Shown, id: NodeId, peer: &Peer) -> bool
+    ensures { result ≡ is_teller now files.now file.now id peer.now }
+{
+    peer.id.0 == id.0 && told_voice(now, files, file, peer).is_some()
 }
 
 /// Whether each node that may hold has a voice: those of the view of a quorate node; a node that is not quorate knows nothing of who is silent.
@@ -236,15 +275,28 @@ pub fn are_all_told(now: u64, files: &[Shown], file: &Shown) -> bool
     ensures { result ≡ are_all_told now files.now file.now }
 {
     if file.answer.quorate {
-        members(file)
-            .iter()
-            .all(|member| has_voice(now, files, file, *member))
+        are_members_told(now, files, file)
     } else {
-        file.peers
-            .as_slice()
-            .iter()
-            .all(|peer| has_voice(now, files, file, peer.id))
+        are_peers_told(now, files, file)
     }
+}
+
+fn are_members_told(now: u64, files: &[Shown], file: &Shown) -> bool
+    ensures { result ≡ list_all (has_voice now files.now file.now) (members_of file.now.view) }
+{
+    members(file)
+        .iter()
+        .all(|member| has_voice(now, files, file, *member))
+}
+
+fn are_peers_told(now: u64, files: &[Shown], file: &Shown) -> bool
+    ensures { result
+        ≡ list_all (λ peer. has_voice now files.now file.now peer.id) file.now.peers.items }
+{
+    file.peers
+        .as_slice()
+        .iter()
+        .all(|peer| has_voice(now, files, file, peer.id))
 }
 
 /// Whether nothing is wrong by the node's word.
@@ -284,11 +336,16 @@ pub(crate) fn is_well(now: u64, files: &[Shown], file: &Shown) -> bool
         && is_voice_well(voice_of(file))
         && is_in_service(file.phase)
         && is_quiet(file.mailbox.state)
-        && file
-            .peers
-            .as_slice()
-            .iter()
-            .all(|peer| is_peer_well(now, files, file, peer))
+        && are_peers_well(now, files, file)
+}
+
+fn are_peers_well(now: u64, files: &[Shown], file: &Shown) -> bool
+    ensures { result ≡ list_all (is_peer_well now files.now file.now) file.now.peers.items }
+{
+    file.peers
+        .as_slice()
+        .iter()
+        .all(|peer| is_peer_well(now, files, file, peer))
 }
 
 fn is_in_service(phase: Phase) -> bool
