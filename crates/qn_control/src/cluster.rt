@@ -5,8 +5,8 @@ use qn_model::Phase;
 use qn_names::phase_name;
 use qn_shown::{Group, Peer, Shown};
 use qn_verdict::{
-    Verdict, Voice, is_contested, is_heard, is_held, is_held_twice, is_live, is_quiet, judge, members, told_voice,
-    voice_of,
+    Verdict, Voice, is_contested, is_heard, is_held, is_held_twice, is_live, is_quiet, judge,
+    members, told_voice, voice_of,
 };
 use std::alloc::{AllocError, Global};
 
@@ -75,7 +75,9 @@ impl ClusterStatus {
     /// Whether two nodes hold at a time.
     fn is_contested(&self) -> bool {
         let nodes = self.nodes.as_slice();
-        let holders = nodes.iter().filter(|node| is_live(self.now, node) && node.holds);
+        let holders = nodes
+            .iter()
+            .filter(|node| is_live(self.now, node) && node.holds);
         holders.count() > 1 || is_contested(self.now, nodes)
     }
 
@@ -88,7 +90,9 @@ impl ClusterStatus {
                 self.add_told(&mut voices, node)?;
             }
         }
-        voices.as_mut_slice().sort_unstable_by_key(|voice| voice.id.0);
+        voices
+            .as_mut_slice()
+            .sort_unstable_by_key(|voice| voice.id.0);
         Ok(voices)
     }
 
@@ -129,7 +133,11 @@ impl ClusterStatus {
 
 /// Adds a voice, where there is none of its node.
 fn add_voice(voices: &mut Vec<Voice>, voice: Voice) -> Result<(), AllocError> {
-    if voices.as_slice().iter().any(|other| other.id.0 == voice.id.0) {
+    if voices
+        .as_slice()
+        .iter()
+        .any(|other| other.id.0 == voice.id.0)
+    {
         return Ok(());
     }
     voices.push(voice)?;
@@ -238,7 +246,11 @@ impl<'a> Words<'a> {
                 separator = self.add_missing(voices, node, separator);
             }
         }
-        self.text.add(if separator == ", " { " tells nothing" } else { "" });
+        self.text.add(if separator == ", " {
+            " tells nothing"
+        } else {
+            ""
+        });
         self.add_wrongs(voices);
     }
 
@@ -297,7 +309,8 @@ impl<'a> Words<'a> {
                 self.add_node(peer.id);
                 if let Some(refused) = peer.refused.filter(|refused| *refused > 0) {
                     self.text.add_number(" (", refused);
-                    self.text.add(" packets of it refused: another key or text)");
+                    self.text
+                        .add(" packets of it refused: another key or text)");
                 }
             }
         }

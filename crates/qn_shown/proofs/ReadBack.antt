@@ -213,12 +213,12 @@ heard_number Nothing fits = tt
 heard_number (Said told tick) fits =
     let group = group_number_fits told.group in
     numbers (told_entries told tick)
-      (whole_number (group_number told.group) (omega (arith, group)), (whole_number told.held_ms fits.0.0, (tt, (whole_number told.incarnation fits.0.1, (tt, (tt, (whole_number tick fits.1, tt)))))))
+    (whole_number (group_number told.group) (omega (arith, group)), (whole_number told.held_ms fits.0.0, (tt, (whole_number told.incarnation fits.0.1, (tt, (tt, (whole_number tick fits.1, tt)))))))
 
 peer_number : (peer : Peer) → PeerFits peer → HasNumbers (peer_json peer)
 peer_number peer fits =
     numbers (peer_entries peer)
-      (null_number whole whole_number peer.hello_tick fits.hello_tick, (id_number peer.id fits.id, (text_there_number peer.name, (there_number whole whole_number peer.refused fits.refused, (heard_number peer.told fits.told, tt)))))
+    (null_number whole whole_number peer.hello_tick fits.hello_tick, (id_number peer.id fits.id, (text_there_number peer.name, (there_number whole whole_number peer.refused fits.refused, (heard_number peer.told fits.told, tt)))))
 
 group_json_number : (group : Group) → ValueHasNumbers (group_json group)
 group_json_number NoGroup = tt

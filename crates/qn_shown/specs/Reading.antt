@@ -64,7 +64,7 @@ ids_in = list_in id_in
 abbrev pub told_in : Json → Option Heard
 told_in j =
     Some (λ group held_ms holds incarnation leaving quorate tick.
-        Said (record { group = group; held_ms = held_ms; holds = holds; incarnation = incarnation; leaving = leaving; quorate = quorate }) tick)
+    Said (record { group = group; held_ms = held_ms; holds = holds; incarnation = incarnation; leaving = leaving; quorate = quorate }) tick)
     <*> key_in told_group_in (codes "group") j
     <*> key_in whole_in (codes "held_ms") j
     <*> key_in as_bool (codes "holds") j

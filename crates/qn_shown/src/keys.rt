@@ -73,10 +73,7 @@ pub(crate) fn text_or_null(
 }
 
 /// A whole number, where the key is there.
-pub(crate) fn whole_if_there(
-    json: &Value<'_>,
-    key: &'static str,
-) -> Result<Option<u64>, ShownFault>
+pub(crate) fn whole_if_there(json: &Value<'_>, key: &'static str) -> Result<Option<u64>, ShownFault>
     ensures { result_ok result ≡ optional_in whole_in key.now (value_view json.now) }
 {
     match json.get(key) {

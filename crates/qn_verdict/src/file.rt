@@ -26,7 +26,11 @@ pub fn miss_time(file: &Shown) -> u64
 pub(crate) fn loop_of(file: &Shown) -> u32
     ensures { result ≡ loop_of file.now }
 {
-    if file.loop_ms == 0 { 1000 } else { file.loop_ms }
+    if file.loop_ms == 0 {
+        1000
+    } else {
+        file.loop_ms
+    }
 }
 
 /// The nodes that the node counts as present; none where it has no view.

@@ -139,7 +139,5 @@ fn holders(now: u64, files: &[Shown]) -> usize
 fn is_owner_unknown(now: u64, files: &[Shown]) -> bool
     ensures { result ≡ is_owner_unknown now files.now }
 {
-    files
-        .iter()
-        .any(|file| is_live(now, file) && !are_all_told(now, files, file))
+    files.iter().any(|file| is_live(now, file) && !are_all_told(now, files, file))
 }

@@ -123,12 +123,8 @@ impl<'words> Before<'words> {
             Word::Open => return say_once(&mut self.is_open, text),
             Word::Blank => return say_once(&mut self.is_blank, text),
             Word::Anew => return say_once(&mut self.is_anew, text),
-            Word::Links
-            | Word::Key
-            | Word::Halt
-            | Word::Status
-            | Word::LeaveFile
-            | Word::Group => {}
+            Word::Links | Word::Key | Word::Halt | Word::Status | Word::LeaveFile | Word::Group =>
+                {}
         }
         let value = words.get(self.count).map(String::as_str);
         let Some(value) = value.filter(|value| Word::of(value).is_none()) else {
