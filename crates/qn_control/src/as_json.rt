@@ -4,7 +4,7 @@ use crate::image::ImageSeen;
 use crate::image_json::add_nodes as add_nodes_of_image;
 use crate::text::Text;
 use qn_names::phase_name;
-use qn_shown::{Peer, Shown, ShownView};
+use qn_shown::{Group, Heard, Peer, Shown, ShownView};
 use qn_verdict::is_stale;
 use std::alloc::{AllocError, Global};
 
@@ -67,7 +67,12 @@ fn add_node(json: &mut Text, cluster: &ClusterStatus, node: &Shown) {
         None => json.add("null"),
     }
     json.add_number(",\"expected\":", node.answer.expected);
-    json.add_truth(",\"format\":1,\"holds\":", node.holds);
+    json.add(",\"format\":1");
+    add_group(json, node.group);
+    if let Some(held_ms) = node.held_ms {
+        json.add_number(",\"held_ms\":", held_ms);
+    }
+    json.add_truth(",\"holds\":", node.holds);
     json.add_number(",\"id\":", u64::from(node.id.0));
     json.add_number_or_null(",\"incarnation\":", node.incarnation);
     json.add_number(",\"late\":", node.counts.late);
@@ -102,10 +107,52 @@ fn add_peers(json: &mut Text, peers: &[Peer]) {
         json.add(separator);
         json.add_number_or_null("{\"hello_tick\":", peer.hello_tick);
         json.add_number(",\"id\":", u64::from(peer.id.0));
+        if let Some(name) = &peer.name {
+            json.add(",\"name\":");
+            json.add_string(name.as_str());
+        }
+        if let Some(refused) = peer.refused {
+            json.add_number(",\"refused\":", refused);
+        }
+        add_heard(json, peer.told);
         json.add("}");
         separator = ",";
     }
     json.add("]");
+}
+
+/// What a node told last, and when that came.
+fn add_heard(json: &mut Text, heard: Heard) {
+    let (told, tick) = match heard {
+        Heard::Unsaid => return,
+        Heard::Nothing => return json.add(",\"told\":null"),
+        Heard::Said(told, tick) => (told, tick),
+    };
+    json.add_number(",\"told\":{\"group\":", u64::from(told.group.number()));
+    json.add_number(",\"held_ms\":", told.held_ms);
+    json.add_truth(",\"holds\":", told.holds);
+    json.add_number(",\"incarnation\":", told.incarnation);
+    json.add_truth(",\"leaving\":", told.leaving);
+    json.add_truth(",\"quorate\":", told.quorate);
+    json.add_number(",\"tick\":", tick);
+    json.add("}");
+}
+
+/// How the group is: nothing where there is none, null where nothing looks after it.
+fn add_group(json: &mut Text, group: Group) {
+    match group {
+        Group::NoGroup => {}
+        Group::Unattended => json.add(",\"group\":null"),
+        Group::Down
+        | Group::Looking
+        | Group::Starting
+        | Group::Runs
+        | Group::Unsure
+        | Group::Stopping
+        | Group::Failed
+        | Group::Stuck
+        | Group::Maintenance => json.add_number(",\"group\":", u64::from(group.number())),
+    }
 }
 
 /// The keys from `pid` to `released`.

@@ -8,12 +8,10 @@ use std::alloc::{AllocError, Global};
 
 /// The verdict in one line, a line for each node, one for each peer that it misses, and one for each file that is none.
 pub fn cluster_text(alloc: Global, cluster: &ClusterStatus) -> Result<String, AllocError> {
-    let reason = cluster.reason(alloc)?;
+    let line = cluster.line(alloc)?;
     let mut text = Text::new(alloc);
     text.add("quorumd ");
-    text.add(cluster.verdict().name());
-    text.add(": ");
-    text.add(reason.as_str());
+    text.add(line.as_str());
     text.add("\n node phase    holds quorate votes  view           mail         age  why\n");
     for node in cluster.nodes.as_slice() {
         add_node(&mut text, cluster, node);

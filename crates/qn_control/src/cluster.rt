@@ -1,7 +1,13 @@
 //! A cluster as its status files show it, and what is said of it in one line.
 use crate::text::Text;
-use qn_shown::{Peer, Shown};
-use qn_verdict::{Verdict, is_holder, is_live, is_quiet, judge, sees, sees_all};
+use qn_base::NodeId;
+use qn_model::Phase;
+use qn_names::phase_name;
+use qn_shown::{Group, Peer, Shown};
+use qn_verdict::{
+    Verdict, Voice, is_contested, is_heard, is_held, is_held_twice, is_live, is_quiet, judge,
+    members, told_voice, voice_of,
+};
 use std::alloc::{AllocError, Global};
 
 /// The status files of a cluster, at a moment of their host.
@@ -28,45 +34,95 @@ impl ClusterStatus {
         judge(self.now, self.nodes.as_slice()).beside_unread(!self.unread.is_empty())
     }
 
-    /// The reason of the verdict, in one line without its end.
-    pub fn reason(&self, alloc: Global) -> Result<String, AllocError> {
+    /// The verdict and its reason, in one line without its end.
+    pub fn line(&self, alloc: Global) -> Result<String, AllocError> {
         let mut text = Text::new(alloc);
-        match self.verdict() {
-            Verdict::Healthy => add_holders(&mut text, self, "node ", " holds"),
-            Verdict::Degraded => return self.wrongs(alloc),
-            Verdict::NoOwner if self.is_held() => add_holders(&mut text, self, "TWO HOLDERS: ", ""),
-            Verdict::NoOwner => add_waits(&mut text, self),
-            Verdict::Unknown => text.add("no node answers"),
+        let reason = self.reason(alloc)?;
+        if !self.is_contested() {
+            text.add(self.verdict().name());
+            if !reason.as_str().is_empty() {
+                text.add(": ");
+            }
         }
+        text.add(reason.as_str());
         text.finish()
     }
 
-    /// What is wrong, node by node.
-    fn wrongs(&self, alloc: Global) -> Result<String, AllocError> {
-        let mut wrongs = Wrongs {
+    /// The reason of the verdict, in one line without its end; empty where nothing more is to be said.
+    pub fn reason(&self, alloc: Global) -> Result<String, AllocError> {
+        let voices = self.voices(alloc)?;
+        let mut words = Words {
+            cluster: self,
             text: Text::new(alloc),
             separator: "",
         };
-        if !self.is_held() {
-            wrongs.add_owner_elsewhere(self);
-        }
-        for node in self.nodes.as_slice() {
-            if is_live(self.now, node) {
-                wrongs.add_live(node);
-            } else {
-                wrongs.add_silent(self, node);
+        match self.verdict() {
+            Verdict::Unknown => words.text.add("no node answers"),
+            Verdict::NoOwner if self.is_contested() => words.add_holders(voices.as_slice()),
+            Verdict::Healthy => words.add_healthy(voices.as_slice()),
+            Verdict::Degraded if is_held_twice(self.now, self.nodes.as_slice()) => {
+                words.add_hand_over(voices.as_slice());
             }
+            Verdict::Degraded if is_held(self.now, self.nodes.as_slice()) => {
+                words.add_holder(voices.as_slice());
+            }
+            Verdict::Degraded => words.add_owner_unknown(voices.as_slice()),
+            Verdict::NoOwner => words.add_wrongs(voices.as_slice()),
         }
-        for file in self.unread.as_slice() {
-            wrongs.add_unread(file);
-        }
-        wrongs.text.finish()
+        words.text.finish()
     }
 
-    /// Whether a live node of these holds.
-    fn is_held(&self) -> bool {
-        let mut nodes = self.nodes.as_slice().iter();
-        nodes.any(|node| is_holder(self.now, node))
+    /// Whether two nodes hold at a time.
+    fn is_contested(&self) -> bool {
+        let nodes = self.nodes.as_slice();
+        let holders = nodes
+            .iter()
+            .filter(|node| is_live(self.now, node) && node.holds);
+        holders.count() > 1 || is_contested(self.now, nodes)
+    }
+
+    /// How each node is by its own word, in ascending id.
+    fn voices(&self, alloc: Global) -> Result<Vec<Voice>, AllocError> {
+        let mut voices = Vec::new(alloc);
+        for node in self.nodes.as_slice() {
+            if is_live(self.now, node) {
+                add_voice(&mut voices, voice_of(node))?;
+                self.add_told(&mut voices, node)?;
+            }
+        }
+        voices
+            .as_mut_slice()
+            .sort_unstable_by_key(|voice| voice.id.0);
+        Ok(voices)
+    }
+
+    /// Adds how the nodes are that told this one lately and have no file here.
+    fn add_told(&self, voices: &mut Vec<Voice>, node: &Shown) -> Result<(), AllocError> {
+        for peer in node.peers.as_slice() {
+            if let Some(voice) = told_voice(self.now, self.nodes.as_slice(), node, peer) {
+                add_voice(voices, voice)?;
+            }
+        }
+        Ok(())
+    }
+
+    /// The name of a node, where a file has it.
+    fn name_of(&self, id: NodeId) -> Option<&str> {
+        for node in self.nodes.as_slice() {
+            if node.id.0 == id.0 {
+                if let Some(name) = &node.name {
+                    return Some(name.as_str());
+                }
+            }
+            for peer in node.peers.as_slice() {
+                if peer.id.0 == id.0 {
+                    if let Some(name) = &peer.name {
+                        return Some(name.as_str());
+                    }
+                }
+            }
+        }
+        None
     }
 
     /// How old a file is, in milliseconds; 0 where its tick is after the moment.
@@ -75,121 +131,251 @@ impl ClusterStatus {
     }
 }
 
-/// The ids of the live holders.
-fn add_holders(
-    text: &mut Text,
-    cluster: &ClusterStatus,
-    before: &'static str,
-    after: &'static str,
-) {
-    let mut separator = before;
-    for node in cluster.nodes.as_slice() {
-        if is_holder(cluster.now, node) {
-            text.add_number(separator, u64::from(node.id.0));
-            separator = ", ";
-        }
+/// Adds a voice, where there is none of its node.
+fn add_voice(voices: &mut Vec<Voice>, voice: Voice) -> Result<(), AllocError> {
+    if voices
+        .as_slice()
+        .iter()
+        .any(|other| other.id.0 == voice.id.0)
+    {
+        return Ok(());
     }
-    text.add(after);
+    voices.push(voice)?;
+    Ok(())
 }
 
-/// What each live node waits for.
-fn add_waits(text: &mut Text, cluster: &ClusterStatus) {
-    let mut separator = "no owner: ";
-    for node in cluster.nodes.as_slice() {
-        if is_live(cluster.now, node) {
-            text.add_number(separator, u64::from(node.id.0));
-            text.add(" ");
-            text.add_foreign(node.why.as_str());
-            separator = "; ";
-        }
-    }
-}
-
-/// A list of what is wrong.
+/// What is said of a cluster, part by part.
 #[derive(Drop)]
-struct Wrongs {
+struct Words<'a> {
+    cluster: &'a ClusterStatus,
     text: Text,
-    /// What stands before the next thing.
+    /// What stands before the next part.
     separator: &'static str,
 }
 
-impl Wrongs {
+impl<'a> Words<'a> {
     fn begin(&mut self) {
         self.text.add(self.separator);
         self.separator = "; ";
     }
 
-    fn begin_node(&mut self, node: &Shown) {
+    /// Begins a part with the name of a node, or its id.
+    fn begin_node(&mut self, id: NodeId) {
         self.begin();
-        self.text.add_number("node ", u64::from(node.id.0));
+        self.add_node(id);
     }
 
-    /// None of these nodes holds; which one does is said as far as one of them was told.
-    fn add_owner_elsewhere(&mut self, cluster: &ClusterStatus) {
+    fn add_node(&mut self, id: NodeId) {
+        match self.cluster.name_of(id) {
+            Some(name) => self.text.add_foreign(name),
+            None => self.text.add_number("", u64::from(id.0)),
+        }
+    }
+
+    /// Two nodes hold at a time.
+    fn add_holders(&mut self, voices: &[Voice]) {
+        self.separator = "TWO HOLDERS: ";
+        for voice in voices.iter().filter(|voice| voice.holds) {
+            self.text.add(self.separator);
+            self.add_node(voice.id);
+            self.separator = ", ";
+        }
+        self.text.add(" (by their own word)");
+    }
+
+    /// One node holds, and nothing is wrong.
+    fn add_healthy(&mut self, voices: &[Voice]) {
+        if let Some(voice) = voices.iter().find(|voice| voice.holds) {
+            self.begin_node(voice.id);
+            self.text.add(" holds");
+            self.text.add(match voice.group {
+                Group::NoGroup => " (no group)",
+                Group::Unsure => " (unsure)",
+                Group::Maintenance => " (maintenance)",
+                Group::Down
+                | Group::Looking
+                | Group::Starting
+                | Group::Runs
+                | Group::Stopping
+                | Group::Failed
+                | Group::Stuck
+                | Group::Unattended => "",
+            });
+        }
+    }
+
+    /// One node hands over to another: who holds the longest, and who the shortest time.
+    fn add_hand_over(&mut self, voices: &[Voice]) {
+        let holders = voices.iter().filter(|voice| voice.holds);
+        let old = holders.max_by_key(|voice| (voice.held_ms, u32::MAX - voice.id.0));
+        let holders = voices.iter().filter(|voice| voice.holds);
+        let new = holders.min_by_key(|voice| voice.held_ms);
+        if let (Some(old), Some(new)) = (old, new) {
+            self.begin_node(old.id);
+            self.text.add(" hands over to ");
+            self.add_node(new.id);
+        }
+    }
+
+    /// One node holds, and something is wrong.
+    fn add_holder(&mut self, voices: &[Voice]) {
+        let Some(voice) = voices.iter().find(|voice| voice.holds) else {
+            return;
+        };
+        self.begin_node(voice.id);
+        self.text.add(" holds");
+        if matches!(voice.group, Group::Unattended) {
+            self.begin();
+            self.text.add("nothing looks after its group");
+        } else if !voice.group.is_fine() {
+            self.begin();
+            self.text.add("its group is ");
+            self.text.add(voice.group.name());
+        }
+        self.add_wrongs(voices);
+        self.add_silent(voices);
+    }
+
+    /// No node holds by its word, and these say nothing.
+    fn add_owner_unknown(&mut self, voices: &[Voice]) {
         self.begin();
-        self.text
-            .add("owner not among the nodes that are looked at");
+        self.text.add("owner not known");
+        let mut separator = ": ";
+        for node in self.cluster.nodes.as_slice() {
+            if is_live(self.cluster.now, node) {
+                separator = self.add_missing(voices, node, separator);
+            }
+        }
+        self.text.add(if separator == ", " {
+            " tells nothing"
+        } else {
+            ""
+        });
+        self.add_wrongs(voices);
+    }
+
+    /// The nodes that may hold and have no voice: those of the view of a quorate node, of another one all.
+    fn add_missing(
+        &mut self,
+        voices: &[Voice],
+        node: &Shown,
+        separator: &'static str,
+    ) -> &'static str {
+        let mut separator = separator;
+        for peer in node.peers.as_slice() {
+            let is_candidate = !node.answer.quorate || is_member(node, peer.id);
+            if is_candidate && !voices.iter().any(|voice| voice.id.0 == peer.id.0) {
+                self.text.add(separator);
+                self.add_node(peer.id);
+                separator = ", ";
+            }
+        }
+        separator
+    }
+
+    /// What is wrong, whoever holds.
+    fn add_wrongs(&mut self, voices: &[Voice]) {
+        let cluster = self.cluster;
         for node in cluster.nodes.as_slice() {
-            if is_live(cluster.now, node) && node.why.as_str().starts_with("held-by:") {
-                self.text.add_number(", node ", u64::from(node.id.0));
-                self.text.add(" says ");
-                self.text.add_foreign(node.why.as_str());
+            if is_live(cluster.now, node) {
+                self.add_unseen(node);
+            }
+        }
+        for voice in voices.iter().filter(|voice| !voice.quorate) {
+            self.begin_node(voice.id);
+            self.text.add(" not quorate");
+        }
+        for voice in voices.iter().filter(|voice| voice.leaving) {
+            self.begin_node(voice.id);
+            self.text.add(" is leaving");
+        }
+        for node in cluster.nodes.as_slice() {
+            self.add_state(node);
+        }
+        for file in cluster.unread.as_slice() {
+            self.begin();
+            self.text.add_foreign(file.path.as_str());
+            self.text.add(": ");
+            self.text.add_foreign(file.why.as_str());
+        }
+    }
+
+    /// The nodes of which a node heard no Hello lately.
+    fn add_unseen(&mut self, node: &Shown) {
+        for peer in node.peers.as_slice() {
+            if !is_heard(self.cluster.now, node, peer) {
+                self.begin_node(node.id);
+                self.text.add(" does not see ");
+                self.add_node(peer.id);
+                if let Some(refused) = peer.refused.filter(|refused| *refused > 0) {
+                    self.text.add_number(" (", refused);
+                    self.text
+                        .add(" packets of it refused: another key or text)");
+                }
             }
         }
     }
 
-    /// A node says nothing any more.
-    fn add_silent(&mut self, cluster: &ClusterStatus, node: &Shown) {
-        self.begin_node(node);
-        match &node.end {
-            Some(end) => {
-                self.text.add(" ended: ");
-                self.text.add_foreign(end.as_str());
-            }
-            None if cluster.now < node.tick => self.text.add(" is of another boot of this host"),
-            None => {
-                self.text.add(" silent for ");
-                self.text.add_seconds(cluster.age(node));
-                self.text.add(" s");
-            }
+    /// That a node is dying or off, has mail, or says nothing any more.
+    fn add_state(&mut self, node: &Shown) {
+        if !is_live(self.cluster.now, node) {
+            return self.add_stale(node);
         }
-    }
-
-    /// What is wrong with a node that is live.
-    fn add_live(&mut self, node: &Shown) {
-        if !node.answer.quorate {
-            self.begin_node(node);
-            self.text.add_number(" not quorate ", node.answer.votes);
-            self.text.add_number("/", node.answer.quorum);
-        } else if !sees_all(node) {
-            self.begin_node(node);
-            self.add_unseen(node);
+        if matches!(node.phase, Phase::Dying | Phase::Gone) {
+            self.begin_node(node.id);
+            self.text.add(" is ");
+            self.text.add(phase_name(node.phase));
         }
         if !is_quiet(node.mailbox.state) {
-            self.begin_node(node);
+            self.begin_node(node.id);
             self.text.add(" has mail ");
             self.text.add(node.mailbox.state.name());
         }
     }
 
-    /// The configured nodes that a node does not see.
-    fn add_unseen(&mut self, node: &Shown) {
-        let mut separator = " does not see ";
-        for peer in node.peers.as_slice() {
-            if !sees(node, peer) {
-                self.text.add_number(separator, u64::from(peer.id.0));
-                separator = ",";
+    /// A file of a node that says nothing of now.
+    fn add_stale(&mut self, node: &Shown) {
+        self.begin_node(node.id);
+        match &node.end {
+            Some(end) => {
+                self.text.add(" ended: ");
+                self.text.add_foreign(end.as_str());
+            }
+            None if self.cluster.now < node.tick => {
+                self.text.add(" is of another boot of this host");
+            }
+            None => {
+                self.text.add(" silent for ");
+                self.text.add_seconds(self.cluster.age(node));
+                self.text.add(" s");
             }
         }
     }
 
-    /// A file that cannot be read, or is no status file.
-    fn add_unread(&mut self, file: &UnreadFile) {
-        self.begin();
-        self.text.add_foreign(file.path.as_str());
-        self.text.add(": ");
-        self.text.add_foreign(file.why.as_str());
+    /// The nodes that are heard, and tell nothing.
+    fn add_silent(&mut self, voices: &[Voice]) {
+        let cluster = self.cluster;
+        for node in cluster.nodes.as_slice() {
+            if is_live(cluster.now, node) {
+                self.add_silent_peers(voices, node);
+            }
+        }
     }
+
+    fn add_silent_peers(&mut self, voices: &[Voice], node: &Shown) {
+        for peer in node.peers.as_slice() {
+            let has_voice = voices.iter().any(|voice| voice.id.0 == peer.id.0);
+            if !has_voice && is_heard(self.cluster.now, node, peer) {
+                self.begin_node(peer.id);
+                self.text.add(" tells nothing");
+            }
+        }
+    }
+}
+
+/// Whether the node counts that one as present.
+fn is_member(node: &Shown, id: NodeId) -> bool {
+    members(node).iter().any(|member| member.0 == id.0)
 }
 
 /// For how many milliseconds its node did not hear a peer; None where it never did.

@@ -3,10 +3,12 @@ ghost use Rattle.qn_io.specs.Receives.{FitsPacket};
 
 use crate::arbiter::ArbiterNews;
 use crate::ending::end_text;
+use crate::group_file::group_of_file;
 use crate::mail::{MailNews, MailState, Mailbox};
 use crate::peers::Peers;
 use crate::seldom::Seldom;
 use crate::status_text::{Counts, Shown, status_text};
+use crate::telling::Telling;
 use qn_base::Rank;
 use qn_event::{EventLine, Moment};
 use qn_io::Got;
@@ -39,7 +41,10 @@ pub struct Journal<'a, R: Files<File = File> + Clock + Eprint> {
     rt: &'a R,
     lines: &'a Lines,
     status: Option<ReplacedFile>,
+    /// The path of the file in which the supervisor of the host's resources says how their group is.
+    group: Option<&'a str>,
     pid: u32,
+    telling: Telling,
     observer: Observer,
     arbiter: ArbiterNews,
     /// How long the times of the header have a reset be waited for, in milliseconds; 0 before.
@@ -60,18 +65,22 @@ pub struct Journal<'a, R: Files<File = File> + Clock + Eprint> {
 }
 
 impl<'a, R: Files<File = File> + Clock + Eprint> Journal<'a, R> {
-    /// A journal by these lines, of the process of that number, with that status file.
+    /// A journal by these lines, of the process of that number, with that status file, and with the file of that path in which the supervisor of the
+    /// host's resources says how their group is.
     pub fn new(
         rt: &'a R,
         lines: &'a Lines,
         status: Option<ReplacedFile>,
+        group: Option<&'a str>,
         pid: u32,
     ) -> Journal<'a, R> {
         Journal {
             rt,
             lines,
             status,
+            group,
             pid,
+            telling: Telling::new(),
             observer: Observer::new(),
             arbiter: ArbiterNews::new(),
             msgwait: 0,
@@ -109,6 +118,20 @@ impl<'a, R: Files<File = File> + Clock + Eprint> Journal<'a, R> {
         }
         self.greet(tick, run);
         self.miss(tick, run);
+    }
+
+    /// Has the others told how this node is, at once where it begins or ends to hold, and once a loop; then it is looked how its group is.
+    fn tell_others(&mut self, tick: u64, run: &NodeRun) {
+        let standing = shown_standing(run);
+        if !self.telling.is_due(tick, run.loop_ms(), standing.holds) {
+            return;
+        }
+        if let Some(path) = self.group {
+            self.telling.group = group_of_file(self.rt, path, tick);
+        }
+        if let Some(told) = self.telling.telling(tick, &standing) {
+            self.lines.voices().tell(told);
+        }
     }
 
     /// Tells of a node that is heard now.
@@ -233,6 +256,8 @@ impl<'a, R: Files<File = File> + Clock + Eprint> Journal<'a, R> {
             loop_ms: run.loop_ms(),
             mailbox: &self.mailbox,
             peers: &self.peers,
+            voices: self.lines.voices(),
+            telling: &self.telling,
             counts: Counts {
                 dropped: self.lines.dropped(),
                 refused: self.refused.all(),
@@ -312,6 +337,7 @@ impl<'a, R: Files<File = File> + Clock + Eprint> Notices for Journal<'a, R> {
             self.tell(event, run);
         }
         if is_turn {
+            self.tell_others(given.tick, run);
             self.tell_seldom(given.tick);
             self.refresh(given.tick, run);
         }

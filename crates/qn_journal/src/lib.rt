@@ -7,11 +7,13 @@
 
 mod arbiter;
 mod ending;
+mod group_file;
 mod journal;
 mod mail;
 mod peers;
 mod seldom;
 mod status_text;
+mod telling;
 mod text;
 
 pub use journal::Journal;

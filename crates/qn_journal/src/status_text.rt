@@ -1,13 +1,16 @@
 //! The status of a running node as one object of JSON, with its keys in alphabetical order.
 use crate::mail::{MailState, Mailbox};
 use crate::peers::Peers;
+use crate::telling::Telling;
 use crate::text::Text;
 use arrayvec::ArrayVec;
 use qn_base::{Mask, Rank, View};
 use qn_event::Moment;
 use qn_live::Standing;
+use qn_machine::Voices;
 use qn_model::{Nodes, Phase};
 use qn_names::{phase_name, write_why};
+use qn_shown::{Group, Heard};
 
 /// What a status says of its node besides where it stands.
 #[derive(Clone, Copy)]
@@ -30,6 +33,8 @@ pub(crate) struct Shown<'a> {
     pub(crate) loop_ms: u64,
     pub(crate) mailbox: &'a Mailbox,
     pub(crate) peers: &'a Peers,
+    pub(crate) voices: &'a Voices,
+    pub(crate) telling: &'a Telling,
     pub(crate) counts: Counts,
     /// How the run ended, where it has.
     pub(crate) end: Option<&'a [u8]>,
@@ -60,7 +65,13 @@ fn add_dropped_to_loop(text: &mut Text, shown: &Shown<'_>) {
     }
     text.add(b",\"expected\":");
     text.number(shown.standing.answer.expected);
-    text.add(b",\"format\":1,\"holds\":");
+    text.add(b",\"format\":1");
+    add_group(text, shown.telling.group);
+    if let Some(held_ms) = shown.telling.held_ms(shown.at.tick) {
+        text.add(b",\"held_ms\":");
+        text.number(held_ms);
+    }
+    text.add(b",\"holds\":");
     text.truth(shown.standing.holds);
     text.add(b",\"id\":");
     text.number(u64::from(shown.nodes.id_of(shown.me).0));
@@ -70,6 +81,26 @@ fn add_dropped_to_loop(text: &mut Text, shown: &Shown<'_>) {
     text.number(shown.counts.late);
     text.add(b",\"loop\":");
     text.number(shown.loop_ms);
+}
+
+/// How the group is: nothing where there is none, null where nothing looks after it.
+fn add_group(text: &mut Text, group: Group) {
+    match group {
+        Group::NoGroup => {}
+        Group::Unattended => text.add(b",\"group\":null"),
+        Group::Down
+        | Group::Looking
+        | Group::Starting
+        | Group::Runs
+        | Group::Unsure
+        | Group::Stopping
+        | Group::Failed
+        | Group::Stuck
+        | Group::Maintenance => {
+            text.add(b",\"group\":");
+            text.number(u64::from(group.number()));
+        }
+    }
 }
 
 fn add_mail(text: &mut Text, shown: &Shown<'_>) {
@@ -100,11 +131,38 @@ fn add_peers(text: &mut Text, shown: &Shown<'_>) {
             text.maybe(shown.peers.hello(rank));
             text.add(b",\"id\":");
             text.number(u64::from(node.id.0));
+            text.add(b",\"refused\":");
+            text.number(shown.voices.refused(rank));
+            add_heard(text, shown.voices.heard(rank));
             text.add(b"}");
             is_first = false;
         }
     }
     text.add(b"]");
+}
+
+/// What a node told last, and when that came.
+fn add_heard(text: &mut Text, heard: Heard) {
+    let (told, tick) = match heard {
+        Heard::Unsaid => return,
+        Heard::Nothing => return text.add(b",\"told\":null"),
+        Heard::Said(told, tick) => (told, tick),
+    };
+    text.add(b",\"told\":{\"group\":");
+    text.number(u64::from(told.group.number()));
+    text.add(b",\"held_ms\":");
+    text.number(told.held_ms);
+    text.add(b",\"holds\":");
+    text.truth(told.holds);
+    text.add(b",\"incarnation\":");
+    text.number(told.incarnation);
+    text.add(b",\"leaving\":");
+    text.truth(told.leaving);
+    text.add(b",\"quorate\":");
+    text.truth(told.quorate);
+    text.add(b",\"tick\":");
+    text.number(tick);
+    text.add(b"}");
 }
 
 fn add_phase_to_released(text: &mut Text, shown: &Shown<'_>) {

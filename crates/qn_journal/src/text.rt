@@ -2,8 +2,8 @@
 use arrayvec::ArrayVec;
 use qn_base::write_decimal;
 
-/// The most bytes of a status: that of 32 nodes whose ids have ten digits is shorter.
-const TEXT: usize = 8192;
+/// The most bytes of a status: that of 32 nodes whose ids have ten digits, and of which each told something, is shorter.
+const TEXT: usize = 12_288;
 
 /// A text while it is put together.
 #[derive(Drop)]

@@ -1,5 +1,6 @@
 //! Lines on standard error that nobody waits for.
 use crate::journal_lines::dropped_line;
+use crate::voices::Voices;
 use crate::waiting::Waiting;
 use arrayvec::ArrayVec;
 use qn_event::{EventLine, Level, Moment};
@@ -33,6 +34,7 @@ pub struct Lines {
     dropped: Cell<u64>,
     /// How many datagrams were not handed on.
     refused: Cell<u64>,
+    voices: Voices,
 }
 
 impl Lines {
@@ -46,7 +48,13 @@ impl Lines {
             untold: Cell::new(0),
             dropped: Cell::new(0),
             refused: Cell::new(0),
+            voices: Voices::new(),
         }
+    }
+
+    /// What the node tells the others of itself, and what these told.
+    pub fn voices(&self) -> &Voices {
+        &self.voices
     }
 
     /// From now on no line waits, where the system can be asked for room.

@@ -11,10 +11,12 @@ use crate::named_file::FIRST_OF_A_FILE;
 use crate::peers::Peers;
 use crate::refusals::Refusals;
 use crate::sealing::Sealing;
+use arrayvec::ArrayVec;
 use qn_base::Rank;
 use qn_exchange::TRIES;
 use qn_io::PACKET;
-use qn_seal::Receiver;
+use qn_seal::{Receiver, Refused};
+use qn_shown::{Told, get_told, put_told};
 use std::fs::File;
 use std::io::{self, ErrorKind};
 use std::net::{IpAddr, Ipv4Addr, Net, SocketAddr, UdpSocket};
@@ -111,6 +113,9 @@ impl Network {
                 return Ok(Some(put(&REQUEST, packet)));
             }
         }
+        if let Some(told) = lines.voices().take_due() {
+            self.tell(told);
+        }
         let end = Deadline::after(rt, WAIT)?;
         let mut left = Duration::from_millis(WAIT);
         'looks: for _ in 0..LOOKS {
@@ -170,12 +175,41 @@ impl Network {
         if self.takes_votes && is_vote_of_host(from, bytes) {
             return Some(put(bytes, packet));
         }
+        let sender = self.admission.peers.sender_of(from);
         match self.admission.take(tick, from, bytes) {
-            Ok(inner) => Some(put(inner, packet)),
+            Ok(inner) => match get_told(inner) {
+                Some((teller, told)) => {
+                    if sender == Some(teller.0) {
+                        lines.voices().hear(teller, told, tick);
+                    }
+                    None
+                }
+                None => Some(put(inner, packet)),
+            },
             Err(reason) => {
-                self.refusals.count(reason);
-                lines.count_refused();
+                self.refuse(lines, sender, reason);
                 None
+            }
+        }
+    }
+
+    /// Counts a datagram that is not handed on, which came from the address of that rank.
+    fn refuse(&mut self, lines: &Lines, sender: Option<u8>, reason: Reason) {
+        self.refusals.count(reason);
+        lines.count_refused();
+        if let (Some(rank), Reason::Sealed(Refused::Unsealed)) = (sender, reason) {
+            lines.voices().refuse(rank);
+        }
+    }
+
+    /// Tells each other node how this one is. What cannot be sent is lost, as any packet may be.
+    fn tell(&mut self, told: Told) {
+        let own = Rank(self.admission.peers.own);
+        let mut spelling = ArrayVec::new();
+        put_told(own, told, &mut spelling);
+        'ranks: for rank in 0..self.admission.peers.count() {
+            if rank != own.0 {
+                let _ = self.send(Rank(rank), spelling.as_slice());
             }
         }
     }

@@ -4,3 +4,4 @@ mod ValuesBack
 mod Members
 mod ReadBack
 mod ListsRead
+mod Tellings

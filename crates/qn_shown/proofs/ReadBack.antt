@@ -1,24 +1,30 @@
 -- The text of what a node shows is read back.
 use Rattle.std.proofs.Common.{◌≡◌, ◌≤◌, ℕ, ◌<◌, ◌^◌, List, [], ◌∷◌, Option, Some, None, option_and_then, option_map, refl, sym, ap, ap₂, ◌∙◌, ◌==◌, if◌then◌else◌, codes, arith}
 use Rattle.json.specs.Json.{Json, null, boolean, number, string, array, object, document}
-use Rattle.json.specs.Find.{as_bool, get, get_member}
+use Rattle.json.specs.Find.{as_bool, get, get_member, later_or}
 use Rattle.json.specs.Tree.{HasNumbers, depth}
 use Rattle.json.proofs.Printed.Decimals.{IsNumber-decimal}
 use Rattle.json.proofs.Printed.Trees.{document-print}
 use Rattle.qn_base.specs.declared.ids.NodeId.{NodeId}
 use Rattle.qn_model.specs.declared.votes.Answer.{Answer}
+use Rattle.qn_shown.specs.declared.group.Group.{Group}
+use Rattle.qn_shown.specs.declared.group.Group.TheVariants.{NoGroup, Down, Looking, Starting, Runs, Unsure, Stopping, Failed, Stuck, Maintenance, Unattended}
 use Rattle.qn_shown.specs.declared.shown.Counts.{Counts}
+use Rattle.qn_shown.specs.declared.shown.Heard.{Heard}
+use Rattle.qn_shown.specs.declared.shown.Heard.TheVariants.{Unsaid, Nothing, Said}
 use Rattle.qn_shown.specs.declared.shown.Mailbox.{Mailbox}
 use Rattle.qn_shown.specs.declared.shown.Peer.{Peer}
 use Rattle.qn_shown.specs.declared.shown.Shown.{Shown}
 use Rattle.qn_shown.specs.declared.shown.ShownView.{ShownView}
+use Rattle.qn_shown.specs.declared.shown.Told.{Told}
 use Rattle.qn_shown.specs.Entries.{Entry, entries_members}
-use Rattle.qn_shown.specs.Fits.{AllOf, Fits, FitsTypes, IsId, OnValue, PeerFits, ViewFits, Within}
-use Rattle.qn_shown.specs.Kinds.{id_in, mail_in, period_in, phase_in, text_in, time_in, time_text, whole_in}
-use Rattle.qn_shown.specs.Reading.{◌<*>◌, answer_in, counts_in, format_in, if_there, ids_in, key_in, mailbox_in, optional_in, or_null, peer_in, peers_in, shown_by, shown_in, shown_of, view_in}
-use Rattle.qn_shown.specs.Spelling.{id_json, items_of, json_or_null, peer_entries, peer_json, shown_entries, shown_json, shown_text, view_entries, view_json, whole}
+use Rattle.qn_shown.specs.Fits.{AllOf, Fits, FitsTypes, HeardFits, IsId, OnValue, PeerFits, ToldFits, ViewFits, Within}
+use Rattle.qn_shown.specs.Groups.{group_number}
+use Rattle.qn_shown.specs.Kinds.{id_in, mail_in, period_in, phase_in, text_in, time_in, time_text, told_group_in, whole_in}
+use Rattle.qn_shown.specs.Reading.{◌<*>◌, answer_in, counts_in, format_in, group_if_there, heard_of, if_there, ids_in, key_in, mailbox_in, optional_in, or_null, peer_in, peers_in, shown_by, shown_in, shown_of, told_in, view_in}
+use Rattle.qn_shown.specs.Spelling.{group_json, heard_json, id_json, items_of, json_or_null, peer_entries, peer_json, shown_entries, shown_json, shown_text, told_entries, view_entries, view_json, whole}
 use Rattle.qn_shown.proofs.Members.{AreFlat, HaveNumbers, ValueHasNumbers, ValueIsFlat, flat, found, items_flat, items_numbers, last_of, numbers}
-use Rattle.qn_shown.proofs.ValuesBack.{all_back, both, id_back, list_back, mail_back, null_back, period_back, phase_back, text_back, time_in_back, whole_back}
+use Rattle.qn_shown.proofs.ValuesBack.{both, group_number_fits, host_group_back, id_back, list_back, mail_back, null_back, period_back, phase_back, text_back, there_back, time_in_back, told_group_back, whole_back}
 use Rattle.qn_shown.proofs.Times.{time_number}
 
 -- a key is found, and its value is read
@@ -35,12 +41,57 @@ maybe_id id fits = null_back id_json id_in id_back (λ id. refl) id fits
 maybe_text : (text : Option (List ℕ)) → OnValue (Within 256) text → or_null (text_in 256) (json_or_null string text) ≡ Some text
 maybe_text text fits = null_back string (text_in 256) (text_back 256) (λ text. refl) text fits
 
+-- what a node told
+said_back : (told : Told) (tick : ℕ) → ToldFits told → Fits tick → told_in (object (entries_members (told_entries told tick))) ≡ Some (Said told tick)
+said_back told tick fits in_time =
+    let es = told_entries told tick in
+    let step0 = both (Some (λ group held_ms holds incarnation leaving quorate tick. Said (record { group = group; held_ms = held_ms; holds = holds; incarnation = incarnation; leaving = leaving; quorate = quorate }) tick)) _ _ told.group refl (key told_group_in (codes "group") es _ told.group refl (told_group_back told.group)) in
+    let step1 = both _ _ _ told.held_ms step0 (key whole_in (codes "held_ms") es _ told.held_ms refl (whole_back told.held_ms fits.0)) in
+    let step2 = both _ _ _ told.holds step1 (key as_bool (codes "holds") es _ told.holds refl refl) in
+    let step3 = both _ _ _ told.incarnation step2 (key whole_in (codes "incarnation") es _ told.incarnation refl (whole_back told.incarnation fits.1)) in
+    let step4 = both _ _ _ told.leaving step3 (key as_bool (codes "leaving") es _ told.leaving refl refl) in
+    let step5 = both _ _ _ told.quorate step4 (key as_bool (codes "quorate") es _ told.quorate refl refl) in
+    both _ _ _ tick step5 (key whole_in (codes "tick") es _ tick refl (whole_back tick in_time))
+
+heard_back : (heard : Heard) → HeardFits heard → heard_of (heard_json heard) ≡ Some heard
+heard_back Unsaid fits = refl
+heard_back Nothing fits = refl
+heard_back (Said told tick) fits = said_back told tick fits.0 fits.1
+
+-- the keys of a peer that may be left out
+peer_name_there : (peer : Peer) → last_of (codes "name") (peer_entries peer) ≡ option_map string peer.name
+peer_name_there peer = by_name peer.name
+  where
+    by_name : (name : Option (List ℕ)) → last_of (codes "name") (peer_entries (record peer { name = name })) ≡ option_map string name
+    by_name None = refl
+    by_name (Some text) = refl
+
+refused_there : (peer : Peer) → last_of (codes "refused") (peer_entries peer) ≡ option_map whole peer.refused
+refused_there peer = by_count peer.refused
+  where
+    by_count : (count : Option ℕ) → last_of (codes "refused") (peer_entries (record peer { refused = count })) ≡ option_map whole count
+    by_count None = refl
+    by_count (Some n) = refl
+
+told_there : (peer : Peer) → last_of (codes "told") (peer_entries peer) ≡ heard_json peer.told
+told_there peer = by_heard peer.told
+  where
+    by_heard : (heard : Heard) → last_of (codes "told") (peer_entries (record peer { told = heard })) ≡ heard_json heard
+    by_heard Unsaid = refl
+    by_heard Nothing = refl
+    by_heard (Said told tick) = refl
+
 peer_back : (peer : Peer) → PeerFits peer → peer_in (peer_json peer) ≡ Some peer
 peer_back peer fits =
     let es = peer_entries peer in
-    let hello = key (or_null whole_in) (codes "hello_tick") es _ peer.hello_tick refl (maybe_whole peer.hello_tick fits.0) in
-    let step0 = both (Some (λ hello id. record { hello_tick = hello; id = id })) _ _ peer.hello_tick refl hello in
-    both _ _ _ peer.id step0 (key id_in (codes "id") es _ peer.id refl (id_back peer.id fits.1))
+    let hello = key (or_null whole_in) (codes "hello_tick") es _ peer.hello_tick refl (maybe_whole peer.hello_tick fits.hello_tick) in
+    let step0 = both (Some (λ hello id name refused told. record { hello_tick = hello; id = id; name = name; refused = refused; told = told })) _ _ peer.hello_tick refl hello in
+    let step1 = both _ _ _ peer.id step0 (key id_in (codes "id") es _ peer.id refl (id_back peer.id fits.id)) in
+    let name = ap (if_there (text_in 63)) (found (codes "name") es ∙ peer_name_there peer) ∙ there_back string (text_in 63) (text_back 63) peer.name fits.name in
+    let step2 = both _ _ _ peer.name step1 name in
+    let refused = ap (if_there whole_in) (found (codes "refused") es ∙ refused_there peer) ∙ there_back whole whole_in whole_back peer.refused fits.refused in
+    let step3 = both _ _ _ peer.refused step2 refused in
+    both _ _ _ peer.told step3 (ap heard_of (found (codes "told") es ∙ told_there peer) ∙ heard_back peer.told fits.told)
 
 view_back : (view : ShownView) → ViewFits view → view_in (view_json view) ≡ Some view
 view_back view fits =
@@ -85,12 +136,30 @@ name_there s = by_name s.name
     by_name None = refl
     by_name (Some text) = refl
 
-name_read : (name : Option (List ℕ)) → OnValue (Within 63) name → if_there (text_in 63) (option_map string name) ≡ Some name
-name_read None fits = refl
-name_read (Some text) fits = ap (option_map (λ t. Some t)) (text_back 63 text fits)
-
 name_back : (s : Shown) → FitsTypes s → optional_in (text_in 63) (codes "name") (shown_json s) ≡ Some s.name
-name_back s fit = ap (if_there (text_in 63)) (found (codes "name") (shown_entries s) ∙ name_there s) ∙ name_read s.name fit.name
+name_back s fit =
+    ap (if_there (text_in 63)) (found (codes "name") (shown_entries s) ∙ name_there s) ∙ there_back string (text_in 63) (text_back 63) s.name fit.name
+
+group_there : (s : Shown) → last_of (codes "group") (shown_entries s) ≡ group_json s.group
+group_there s = later_value (group_json s.group)
+  where
+    later_value : (value : Option Json) → later_or (later_or (later_or (later_or value None) None) None) None ≡ value
+    later_value None = refl
+    later_value (Some j) = refl
+
+group_back : (s : Shown) → group_if_there (get (codes "group") (shown_json s)) ≡ Some s.group
+group_back s = ap group_if_there (found (codes "group") (shown_entries s) ∙ group_there s) ∙ host_group_back s.group
+
+held_there : (s : Shown) → last_of (codes "held_ms") (shown_entries s) ≡ option_map whole s.held_ms
+held_there s = by_time s.held_ms
+  where
+    by_time : (time : Option ℕ) → last_of (codes "held_ms") (shown_entries (record s { held_ms = time })) ≡ option_map whole time
+    by_time None = refl
+    by_time (Some n) = refl
+
+held_back : (s : Shown) → FitsTypes s → optional_in whole_in (codes "held_ms") (shown_json s) ≡ Some s.held_ms
+held_back s fit =
+    ap (if_there whole_in) (found (codes "held_ms") (shown_entries s) ∙ held_there s) ∙ there_back whole whole_in whole_back s.held_ms fit.held_ms
 
 format_back : (s : Shown) → format_in (shown_json s) ≡ Some tt
 format_back s =
@@ -103,7 +172,9 @@ read_shown s fit =
     let step1 = both _ _ _ s.answer step0 (answer_back s fit) in
     let step2 = both _ _ _ s.counts step1 (counts_back s fit) in
     let step3 = both _ _ _ s.end step2 (key (or_null (text_in 256)) (codes "end") es _ s.end refl (maybe_text s.end fit.end)) in
-    let step4 = both _ _ _ s.holds step3 (key as_bool (codes "holds") es _ s.holds refl refl) in
+    let step3a = both _ _ _ s.group step3 (group_back s) in
+    let step3b = both _ _ _ s.held_ms step3a (held_back s fit) in
+    let step4 = both _ _ _ s.holds step3b (key as_bool (codes "holds") es _ s.holds refl refl) in
     let step5 = both _ _ _ s.id step4 (key id_in (codes "id") es _ s.id refl (id_back s.id fit.id)) in
     let step6 = both _ _ _ s.incarnation step5 (key (or_null whole_in) (codes "incarnation") es _ s.incarnation refl (maybe_whole s.incarnation fit.incarnation)) in
     let step7 = both _ _ _ s.loop_ms step6 (key period_in (codes "loop") es _ s.loop_ms refl (period_back s.loop_ms fit.loop_ms)) in
@@ -128,8 +199,39 @@ null_number : {A : Type 0} {P : A → Type 0} (spells : A → Json) → ((a : A)
 null_number spells one None fits = tt
 null_number spells one (Some a) fits = one a fits
 
+there_number : {A : Type 0} {P : A → Type 0} (spells : A → Json) → ((a : A) → P a → HasNumbers (spells a)) → (o : Option A) → OnValue P o → ValueHasNumbers (option_map spells o)
+there_number spells one None fits = tt
+there_number spells one (Some a) fits = one a fits
+
+text_there_number : (text : Option (List ℕ)) → ValueHasNumbers (option_map string text)
+text_there_number None = tt
+text_there_number (Some text) = tt
+
+heard_number : (heard : Heard) → HeardFits heard → ValueHasNumbers (heard_json heard)
+heard_number Unsaid fits = tt
+heard_number Nothing fits = tt
+heard_number (Said told tick) fits =
+    let group = group_number_fits told.group in
+    numbers (told_entries told tick)
+    (whole_number (group_number told.group) (omega (arith, group)), (whole_number told.held_ms fits.0.0, (tt, (whole_number told.incarnation fits.0.1, (tt, (tt, (whole_number tick fits.1, tt)))))))
+
 peer_number : (peer : Peer) → PeerFits peer → HasNumbers (peer_json peer)
-peer_number peer fits = (null_number whole whole_number peer.hello_tick fits.0, (id_number peer.id fits.1, tt))
+peer_number peer fits =
+    numbers (peer_entries peer)
+    (null_number whole whole_number peer.hello_tick fits.hello_tick, (id_number peer.id fits.id, (text_there_number peer.name, (there_number whole whole_number peer.refused fits.refused, (heard_number peer.told fits.told, tt)))))
+
+group_json_number : (group : Group) → ValueHasNumbers (group_json group)
+group_json_number NoGroup = tt
+group_json_number Down = whole_number 1 (omega arith)
+group_json_number Looking = whole_number 2 (omega arith)
+group_json_number Starting = whole_number 3 (omega arith)
+group_json_number Runs = whole_number 4 (omega arith)
+group_json_number Unsure = whole_number 5 (omega arith)
+group_json_number Stopping = whole_number 6 (omega arith)
+group_json_number Failed = whole_number 7 (omega arith)
+group_json_number Stuck = whole_number 8 (omega arith)
+group_json_number Maintenance = whole_number 9 (omega arith)
+group_json_number Unattended = tt
 
 view_number : (view : ShownView) → ViewFits view → HasNumbers (view_json view)
 view_number view fits = (whole_number view.id fits.id, (items_numbers id_json id_number view.members.items fits.members, tt))
@@ -138,195 +240,59 @@ text_number : (text : Option (List ℕ)) → HasNumbers (json_or_null string tex
 text_number None = tt
 text_number (Some text) = tt
 
-name_number : (name : Option (List ℕ)) → ValueHasNumbers (option_map string name)
-name_number None = tt
-name_number (Some text) = tt
-
 shown_number : (s : Shown) → FitsTypes s → HaveNumbers (shown_entries s)
-shown_number s fit = (
-  whole_number s.counts.dropped fit.counts.dropped,
-  (
-    text_number s.end,
-    (
-      whole_number s.answer.expected fit.answer.expected,
-      (
-        IsNumber-decimal 1 (omega arith),
-        (
-          tt,
-          (
-            id_number s.id fit.id,
-            (
-              null_number whole whole_number s.incarnation fit.incarnation,
-              (
-                whole_number s.counts.late fit.counts.late,
-                (
-                  whole_number s.loop_ms (omega (arith, fit.loop_ms)),
-                  (
-                    tt,
-                    (
-                      null_number id_json id_number s.mailbox.by fit.mailbox.by,
-                      (
-                        null_number whole whole_number s.mailbox.tick fit.mailbox.tick,
-                        (
-                          name_number s.name,
-                          (
-                            items_numbers peer_json peer_number s.peers.items fit.peers,
-                            (
-                              tt,
-                              (
-                                whole_number s.pid fit.pid,
-                                (
-                                  tt,
-                                  (
-                                    whole_number s.answer.quorum fit.answer.quorum,
-                                    (
-                                      whole_number s.counts.refused fit.counts.refused,
-                                      (
-                                        tt,
-                                        (
-                                          whole_number s.tick fit.tick,
-                                          (
-                                            time_number s.time_ms fit.time_ms,
-                                            (
-                                              whole_number s.counts.unwritten fit.counts.unwritten,
-                                              (
-                                                null_number view_json view_number s.view fit.view,
-                                                (
-                                                  whole_number s.answer.votes fit.answer.votes,
-                                                  (
-                                                    tt,
-                                                    tt,
-                                                  ),
-                                                ),
-                                              ),
-                                            ),
-                                          ),
-                                        ),
-                                      ),
-                                    ),
-                                  ),
-                                ),
-                              ),
-                            ),
-                          ),
-                        ),
-                      ),
-                    ),
-                  ),
-                ),
-              ),
-            ),
-          ),
-        ),
-      ),
-    ),
-  ),
-)
+shown_number s fit =
+    (whole_number s.counts.dropped fit.counts.dropped, (text_number s.end, (whole_number s.answer.expected fit.answer.expected, (IsNumber-decimal 1 (omega arith), (group_json_number s.group, (there_number whole whole_number s.held_ms fit.held_ms, (tt, (id_number s.id fit.id, (null_number whole whole_number s.incarnation fit.incarnation, (whole_number s.counts.late fit.counts.late, (whole_number s.loop_ms (omega (arith, fit.loop_ms)), (tt, (null_number id_json id_number s.mailbox.by fit.mailbox.by, (null_number whole whole_number s.mailbox.tick fit.mailbox.tick, (text_there_number s.name, (items_numbers peer_json peer_number s.peers.items fit.peers, (tt, (whole_number s.pid fit.pid, (tt, (whole_number s.answer.quorum fit.answer.quorum, (whole_number s.counts.refused fit.counts.refused, (tt, (whole_number s.tick fit.tick, (time_number s.time_ms fit.time_ms, (whole_number s.counts.unwritten fit.counts.unwritten, (null_number view_json view_number s.view fit.view, (whole_number s.answer.votes fit.answer.votes, (tt, tt))))))))))))))))))))))))))))
 
 -- how deep it nests
 flat_or_null : {A : Type 0} (most : ℕ) (spells : A → Json) → ((a : A) → depth (spells a) ≤ most) → (o : Option A) → depth (json_or_null spells o) ≤ most
 flat_or_null most spells one None = omega arith
 flat_or_null most spells one (Some a) = one a
 
-peer_flat : (peer : Peer) → depth (peer_json peer) ≤ 1
-peer_flat peer = let hello = flat_or_null 0 whole (λ n. omega arith) peer.hello_tick in omega (arith, hello)
+there_flat : {A : Type 0} (most : ℕ) (spells : A → Json) → ((a : A) → depth (spells a) ≤ most) → (o : Option A) → ValueIsFlat most (option_map spells o)
+there_flat most spells one None = tt
+there_flat most spells one (Some a) = one a
+
+heard_flat : (heard : Heard) → ValueIsFlat 1 (heard_json heard)
+heard_flat Unsaid = tt
+heard_flat Nothing = omega arith
+heard_flat (Said told tick) = omega arith
+
+peer_flat : (peer : Peer) → depth (peer_json peer) ≤ 2
+peer_flat peer =
+    let no : 0 ≤ 1 = omega arith in
+    let all = flat 1 (peer_entries peer) (flat_or_null 1 whole (λ n. omega arith) peer.hello_tick, (no, (there_flat 1 string (λ text. omega arith) peer.name, (there_flat 1 whole (λ n. omega arith) peer.refused, (heard_flat peer.told, tt))))) in
+    omega (arith, all)
+
+group_flat : (group : Group) → ValueIsFlat 3 (group_json group)
+group_flat NoGroup = tt
+group_flat Down = omega arith
+group_flat Looking = omega arith
+group_flat Starting = omega arith
+group_flat Runs = omega arith
+group_flat Unsure = omega arith
+group_flat Stopping = omega arith
+group_flat Failed = omega arith
+group_flat Stuck = omega arith
+group_flat Maintenance = omega arith
+group_flat Unattended = omega arith
 
 view_flat : (view : ShownView) → depth (view_json view) ≤ 2
 view_flat view = let ids = items_flat 0 id_json (λ id. omega arith) view.members.items in omega (arith, ids)
 
-name_flat : (name : Option (List ℕ)) → ValueIsFlat 2 (option_map string name)
-name_flat None = tt
-name_flat (Some text) = omega arith
+peers_flat : (peers : List Peer) → depth (array (items_of peer_json peers)) ≤ 3
+peers_flat peers = let one = items_flat 2 peer_json peer_flat peers in omega (arith, one)
 
-peers_flat : (peers : List Peer) → depth (array (items_of peer_json peers)) ≤ 2
-peers_flat peers = let one = items_flat 1 peer_json peer_flat peers in omega (arith, one)
+view_in_three : (view : Option ShownView) → depth (json_or_null view_json view) ≤ 3
+view_in_three view = let one = flat_or_null 2 view_json view_flat view in omega (arith, one)
 
-shown_flat : (s : Shown) → AreFlat 2 (shown_entries s)
-shown_flat s = (
-  zero_two,
-  (
-    flat_or_null 2 string (λ text. omega arith) s.end,
-    (
-      zero_two,
-      (
-        zero_two,
-        (
-          zero_two,
-          (
-            zero_two,
-            (
-              flat_or_null 2 whole (λ n. omega arith) s.incarnation,
-              (
-                zero_two,
-                (
-                  zero_two,
-                  (
-                    zero_two,
-                    (
-                      flat_or_null 2 id_json (λ id. omega arith) s.mailbox.by,
-                      (
-                        flat_or_null 2 whole (λ n. omega arith) s.mailbox.tick,
-                        (
-                          name_flat s.name,
-                          (
-                            peers_flat s.peers.items,
-                            (
-                              zero_two,
-                              (
-                                zero_two,
-                                (
-                                  zero_two,
-                                  (
-                                    zero_two,
-                                    (
-                                      zero_two,
-                                      (
-                                        zero_two,
-                                        (
-                                          zero_two,
-                                          (
-                                            zero_two,
-                                            (
-                                              zero_two,
-                                              (
-                                                flat_or_null 2 view_json view_flat s.view,
-                                                (
-                                                  zero_two,
-                                                  (
-                                                    zero_two,
-                                                    tt,
-                                                  ),
-                                                ),
-                                              ),
-                                            ),
-                                          ),
-                                        ),
-                                      ),
-                                    ),
-                                  ),
-                                ),
-                              ),
-                            ),
-                          ),
-                        ),
-                      ),
-                    ),
-                  ),
-                ),
-              ),
-            ),
-          ),
-        ),
-      ),
-    ),
-  ),
-)
-  where
-    zero_two : 0 ≤ 2
-    zero_two = omega arith
+shown_flat : (s : Shown) → AreFlat 3 (shown_entries s)
+shown_flat s =
+    let zero : 0 ≤ 3 = omega arith in
+    (zero, (flat_or_null 3 string (λ text. omega arith) s.end, (zero, (zero, (group_flat s.group, (there_flat 3 whole (λ n. omega arith) s.held_ms, (zero, (zero, (flat_or_null 3 whole (λ n. omega arith) s.incarnation, (zero, (zero, (zero, (flat_or_null 3 id_json (λ id. omega arith) s.mailbox.by, (flat_or_null 3 whole (λ n. omega arith) s.mailbox.tick, (there_flat 3 string (λ text. omega arith) s.name, (peers_flat s.peers.items, (zero, (zero, (zero, (zero, (zero, (zero, (zero, (zero, (zero, (view_in_three s.view, (zero, (zero, tt))))))))))))))))))))))))))))
 
 pub read_back : (s : Shown) → FitsTypes s → shown_in (shown_text s) ≡ Some s
 read_back s fit =
-    let shallow = flat 2 (shown_entries s) (shown_flat s) in
+    let shallow = flat 3 (shown_entries s) (shown_flat s) in
     ap (option_and_then shown_of) (document-print (shown_json s) (numbers (shown_entries s) (shown_number s fit)) (omega (arith, shallow)))
     ∙ read_shown s fit

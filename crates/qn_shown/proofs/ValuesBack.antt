@@ -9,12 +9,15 @@ use Rattle.qn_model.specs.declared.disk.Message.TheVariants as message
 use Rattle.qn_model.specs.declared.life.Phase.{Phase}
 use Rattle.qn_model.specs.declared.life.Phase.TheVariants.{Booting, Up, Leaving, Dying, Gone}
 use Rattle.qn_names.specs.PhaseNames.{phase_name}
+use Rattle.qn_shown.specs.declared.group.Group.{Group}
+use Rattle.qn_shown.specs.declared.group.Group.TheVariants.{NoGroup, Down, Looking, Starting, Runs, Unsure, Stopping, Failed, Stuck, Maintenance, Unattended}
 use Rattle.qn_shown.specs.declared.words.MailState.{MailState}
 use Rattle.qn_shown.specs.declared.words.MailState.TheVariants.{Holds, Damaged, Failed, Unread}
 use Rattle.qn_shown.specs.Fits.{AllOf, Fits, IsId, OnValue, Within}
-use Rattle.qn_shown.specs.Kinds.{id_in, id_of, mail_in, period_in, period_of, phase_in, text_in, text_of, time_in, time_text, whole_in}
-use Rattle.qn_shown.specs.Reading.{◌<*>◌, all_in, few, list_in, or_null}
-use Rattle.qn_shown.specs.Spelling.{id_json, items_of, json_or_null, whole}
+use Rattle.qn_shown.specs.Groups.{group_number, group_of}
+use Rattle.qn_shown.specs.Kinds.{id_in, id_of, mail_in, period_in, period_of, phase_in, said_group, text_in, text_of, time_in, time_text, told_group_in, whole_in}
+use Rattle.qn_shown.specs.Reading.{◌<*>◌, all_in, few, group_if_there, if_there, list_in, or_null}
+use Rattle.qn_shown.specs.Spelling.{group_json, id_json, items_of, json_or_null, whole}
 use Rattle.qn_shown.specs.Words.{mail_word}
 use Rattle.qn_shown.proofs.Times.{time_back}
 
@@ -52,6 +55,50 @@ mail_back Damaged = refl
 mail_back Failed = refl
 mail_back Unread = refl
 
+pub group_number_fits : (group : Group) → group_number group ≤ 10
+group_number_fits NoGroup = omega arith
+group_number_fits Down = omega arith
+group_number_fits Looking = omega arith
+group_number_fits Starting = omega arith
+group_number_fits Runs = omega arith
+group_number_fits Unsure = omega arith
+group_number_fits Stopping = omega arith
+group_number_fits Failed = omega arith
+group_number_fits Stuck = omega arith
+group_number_fits Maintenance = omega arith
+group_number_fits Unattended = omega arith
+
+pub group_of_back : (group : Group) → group_of (group_number group) ≡ Some group
+group_of_back NoGroup = refl
+group_of_back Down = refl
+group_of_back Looking = refl
+group_of_back Starting = refl
+group_of_back Runs = refl
+group_of_back Unsure = refl
+group_of_back Stopping = refl
+group_of_back Failed = refl
+group_of_back Stuck = refl
+group_of_back Maintenance = refl
+group_of_back Unattended = refl
+
+pub told_group_back : (group : Group) → told_group_in (whole (group_number group)) ≡ Some group
+told_group_back group =
+    let small = group_number_fits group in
+    ap (option_and_then group_of) (whole_back (group_number group) (omega (arith, small))) ∙ group_of_back group
+
+pub host_group_back : (group : Group) → group_if_there (group_json group) ≡ Some group
+host_group_back NoGroup = refl
+host_group_back Down = ap (option_and_then said_group) (told_group_back Down)
+host_group_back Looking = ap (option_and_then said_group) (told_group_back Looking)
+host_group_back Starting = ap (option_and_then said_group) (told_group_back Starting)
+host_group_back Runs = ap (option_and_then said_group) (told_group_back Runs)
+host_group_back Unsure = ap (option_and_then said_group) (told_group_back Unsure)
+host_group_back Stopping = ap (option_and_then said_group) (told_group_back Stopping)
+host_group_back Failed = ap (option_and_then said_group) (told_group_back Failed)
+host_group_back Stuck = ap (option_and_then said_group) (told_group_back Stuck)
+host_group_back Maintenance = ap (option_and_then said_group) (told_group_back Maintenance)
+host_group_back Unattended = refl
+
 pub time_in_back : (ms : ℕ) → Fits ms → time_in (number (time_text ms)) ≡ Some ms
 time_in_back ms fits = time_back ms fits
 
@@ -61,6 +108,12 @@ pub null_back : {A : Type 0} {P : A → Type 0} (spells : A → Json) (reads : J
     → (o : Option A) → OnValue P o → or_null reads (json_or_null spells o) ≡ Some o
 null_back spells reads back is_some None fits = refl
 null_back spells reads back is_some (Some a) fits = is_some a ∙ ap (option_map (λ x. Some x)) (back a fits)
+
+-- a value, or none where its key is left out
+pub there_back : {A : Type 0} {P : A → Type 0} (spells : A → Json) (reads : Json → Option A) → ((a : A) → P a → reads (spells a) ≡ Some a)
+    → (o : Option A) → OnValue P o → if_there reads (option_map spells o) ≡ Some o
+there_back spells reads back None fits = refl
+there_back spells reads back (Some a) fits = ap (option_map (λ x. Some x)) (back a fits)
 
 -- a function and its value, where both were read
 pub both : {A B : Type 0} (f : Option (A → B)) (g : A → B) (x : Option A) (a : A) → f ≡ Some g → x ≡ Some a → (f <*> x) ≡ Some (g a)

@@ -3,10 +3,13 @@ use Rattle.std.specs.Prelude.{ℕ, ◌<◌, ◌≤◌, ◌^◌, List, [], ◌∷
 use Rattle.qn_base.specs.declared.ids.NodeId.{NodeId}
 use Rattle.qn_model.specs.declared.votes.Answer.{Answer}
 use Rattle.qn_shown.specs.declared.shown.Counts.{Counts}
+use Rattle.qn_shown.specs.declared.shown.Heard.{Heard}
+use Rattle.qn_shown.specs.declared.shown.Heard.TheVariants.{Unsaid, Nothing, Said}
 use Rattle.qn_shown.specs.declared.shown.Mailbox.{Mailbox}
 use Rattle.qn_shown.specs.declared.shown.Peer.{Peer}
 use Rattle.qn_shown.specs.declared.shown.Shown.{Shown}
 use Rattle.qn_shown.specs.declared.shown.ShownView.{ShownView}
+use Rattle.qn_shown.specs.declared.shown.Told.{Told}
 
 -- a number of 64 bits
 abbrev pub Fits : ℕ → Type 0
@@ -28,8 +31,20 @@ abbrev pub AllOf : {A : Type 0} → (A → Type 0) → List A → Type 0
 AllOf P [] = Unit {0}
 AllOf P (a ∷ rest) = P a × AllOf P rest
 
-abbrev pub PeerFits : Peer → Type 0
-PeerFits peer = OnValue Fits peer.hello_tick × IsId peer.id
+abbrev pub ToldFits : Told → Type 0
+ToldFits told = Fits told.held_ms × Fits told.incarnation
+
+abbrev pub HeardFits : Heard → Type 0
+HeardFits Unsaid = Unit {0}
+HeardFits Nothing = Unit {0}
+HeardFits (Said told tick) = ToldFits told × Fits tick
+
+pub record PeerFits (peer : Peer) : Type 0 where
+  pub hello_tick : OnValue Fits peer.hello_tick
+  pub id : IsId peer.id
+  pub name : OnValue (Within 63) peer.name
+  pub refused : OnValue Fits peer.refused
+  pub told : HeardFits peer.told
 
 pub record ViewFits (view : ShownView) : Type 0 where
   pub id : Fits view.id
@@ -55,6 +70,7 @@ pub record FitsTypes (s : Shown) : Type 0 where
   pub answer : AnswerFits s.answer
   pub counts : CountsFit s.counts
   pub end : OnValue (Within 256) s.end
+  pub held_ms : OnValue Fits s.held_ms
   pub id : IsId s.id
   pub incarnation : OnValue Fits s.incarnation
   pub loop_ms : s.loop_ms ≤ 3600000

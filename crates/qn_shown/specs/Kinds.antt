@@ -5,7 +5,9 @@ use Rattle.json.specs.Find.{as_number, as_str}
 use Rattle.qn_base.specs.declared.ids.NodeId.{NodeId}
 use Rattle.qn_base.specs.Decimal.{number_of}
 use Rattle.qn_model.specs.declared.life.Phase.{Phase}
+use Rattle.qn_shown.specs.declared.group.Group.{Group}
 use Rattle.qn_shown.specs.declared.words.MailState.{MailState}
+use Rattle.qn_shown.specs.Groups.{group_number, group_of}
 use Rattle.qn_shown.specs.Words.{mail_named, phase_named}
 
 -- a whole number of 64 bits
@@ -38,6 +40,17 @@ phase_in j = option_and_then phase_named (as_str j)
 
 abbrev pub mail_in : Json → Option MailState
 mail_in j = option_and_then mail_named (as_str j)
+
+-- the group that a node told
+abbrev pub told_group_in : Json → Option Group
+told_group_in j = option_and_then group_of (whole_in j)
+
+-- the group that the supervisor of the host looks after
+abbrev pub said_group : Group → Option Group
+said_group group = if nat_lt 0 (group_number group) && nat_lt (group_number group) 10 then Some group else None
+
+abbrev pub host_group_in : Json → Option Group
+host_group_in j = option_and_then said_group (told_group_in j)
 
 -- milliseconds as seconds with three places
 abbrev pub three_digits : ℕ → List ℕ

@@ -7,12 +7,16 @@ use Rattle.qn_model.specs.declared.life.Phase.{Phase}
 use Rattle.qn_model.specs.declared.votes.Answer.{Answer}
 use Rattle.qn_shown.specs.declared.fault.ShownFault.{ShownFault}
 use Rattle.qn_shown.specs.declared.fault.ShownFault.TheVariants.{Format, Key, NoMemory, NotJson, Repeated}
+use Rattle.qn_shown.specs.declared.group.Group.{Group}
+use Rattle.qn_shown.specs.declared.group.Group.TheVariants.{NoGroup, Unattended}
 use Rattle.qn_shown.specs.declared.shown.Counts.{Counts}
+use Rattle.qn_shown.specs.declared.shown.Heard.{Heard}
+use Rattle.qn_shown.specs.declared.shown.Heard.TheVariants.{Unsaid, Nothing, Said}
 use Rattle.qn_shown.specs.declared.shown.Mailbox.{Mailbox}
 use Rattle.qn_shown.specs.declared.shown.Peer.{Peer}
 use Rattle.qn_shown.specs.declared.shown.Shown.{Shown}
 use Rattle.qn_shown.specs.declared.shown.ShownView.{ShownView}
-use Rattle.qn_shown.specs.Kinds.{id_in, mail_in, period_in, phase_in, text_in, time_in, whole_in}
+use Rattle.qn_shown.specs.Kinds.{host_group_in, id_in, mail_in, period_in, phase_in, text_in, time_in, told_group_in, whole_in}
 
 -- the value of a key, read so
 abbrev pub key_in : {A : Type 0} → (Json → Option A) → List ℕ → Json → Option A
@@ -29,6 +33,11 @@ if_there reads (Some j) = option_map (λ a. Some a) (reads j)
 
 abbrev pub optional_in : {A : Type 0} → (Json → Option A) → List ℕ → Json → Option (Option A)
 optional_in reads key j = if_there reads (get key j)
+
+-- the group of a host: none where the key is absent
+abbrev pub group_if_there : Option Json → Option Group
+group_if_there None = Some NoGroup
+group_if_there (Some j) = if is_null j then Some Unattended else host_group_in j
 
 -- a function of one more value, where both were read
 infixl 10 ◌<*>◌
@@ -51,9 +60,31 @@ list_in reads j = option_and_then few (option_and_then (all_in reads) (as_array 
 abbrev pub ids_in : Json → Option (List NodeId)
 ids_in = list_in id_in
 
+-- what a node told, and the tick at which that came
+abbrev pub told_in : Json → Option Heard
+told_in j =
+    Some (λ group held_ms holds incarnation leaving quorate tick.
+    Said (record { group = group; held_ms = held_ms; holds = holds; incarnation = incarnation; leaving = leaving; quorate = quorate }) tick)
+    <*> key_in told_group_in (codes "group") j
+    <*> key_in whole_in (codes "held_ms") j
+    <*> key_in as_bool (codes "holds") j
+    <*> key_in whole_in (codes "incarnation") j
+    <*> key_in as_bool (codes "leaving") j
+    <*> key_in as_bool (codes "quorate") j
+    <*> key_in whole_in (codes "tick") j
+
+abbrev pub heard_of : Option Json → Option Heard
+heard_of None = Some Unsaid
+heard_of (Some j) = if is_null j then Some Nothing else told_in j
+
 abbrev pub peer_in : Json → Option Peer
 peer_in j =
-    Some (λ hello id. record { hello_tick = hello; id = id }) <*> key_in (or_null whole_in) (codes "hello_tick") j <*> key_in id_in (codes "id") j
+    Some (λ hello id name refused told. record { hello_tick = hello; id = id; name = name; refused = refused; told = told })
+    <*> key_in (or_null whole_in) (codes "hello_tick") j
+    <*> key_in id_in (codes "id") j
+    <*> optional_in (text_in 63) (codes "name") j
+    <*> optional_in whole_in (codes "refused") j
+    <*> heard_of (get (codes "told") j)
 
 abbrev pub peers_in : Json → Option (List Peer)
 peers_in = list_in peer_in
@@ -91,12 +122,14 @@ abbrev pub format_in : Json → Option (Unit {0})
 format_in j = option_and_then (λ format. if format == 1 then Some tt else None) (key_in whole_in (codes "format") j)
 
 -- what is shown, made of its parts
-abbrev pub shown_by : Unit {0} → Answer → Counts → Option (List ℕ) → Bool → NodeId → Option ℕ → ℕ → Mailbox → Option (List ℕ) → List Peer → Phase → ℕ → ℕ → ℕ → Option ShownView → List ℕ → Shown
-shown_by format answer counts end holds id incarnation loop_ms mailbox name peers phase pid tick time_ms view why =
+abbrev pub shown_by : Unit {0} → Answer → Counts → Option (List ℕ) → Group → Option ℕ → Bool → NodeId → Option ℕ → ℕ → Mailbox → Option (List ℕ) → List Peer → Phase → ℕ → ℕ → ℕ → Option ShownView → List ℕ → Shown
+shown_by format answer counts end group held_ms holds id incarnation loop_ms mailbox name peers phase pid tick time_ms view why =
     record {
       answer = answer;
       counts = counts;
       end = end;
+      group = group;
+      held_ms = held_ms;
       holds = holds;
       id = id;
       incarnation = incarnation;
@@ -119,6 +152,8 @@ shown_of j =
     <*> answer_in j
     <*> counts_in j
     <*> key_in (or_null (text_in 256)) (codes "end") j
+    <*> group_if_there (get (codes "group") j)
+    <*> optional_in whole_in (codes "held_ms") j
     <*> key_in as_bool (codes "holds") j
     <*> key_in id_in (codes "id") j
     <*> key_in (or_null whole_in) (codes "incarnation") j

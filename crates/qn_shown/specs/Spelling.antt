@@ -5,10 +5,16 @@ use Rattle.json.specs.Print.{print}
 use Rattle.json.specs.Tree.{json_tokens}
 use Rattle.qn_base.specs.declared.ids.NodeId.{NodeId}
 use Rattle.qn_names.specs.PhaseNames.{phase_name}
+use Rattle.qn_shown.specs.declared.group.Group.{Group}
+use Rattle.qn_shown.specs.declared.group.Group.TheVariants.{NoGroup, Down, Looking, Starting, Runs, Unsure, Stopping, Failed, Stuck, Maintenance, Unattended}
+use Rattle.qn_shown.specs.declared.shown.Heard.{Heard}
+use Rattle.qn_shown.specs.declared.shown.Heard.TheVariants.{Unsaid, Nothing, Said}
 use Rattle.qn_shown.specs.declared.shown.Peer.{Peer}
 use Rattle.qn_shown.specs.declared.shown.Shown.{Shown}
 use Rattle.qn_shown.specs.declared.shown.ShownView.{ShownView}
+use Rattle.qn_shown.specs.declared.shown.Told.{Told}
 use Rattle.qn_shown.specs.Entries.{Entry, entries_members}
+use Rattle.qn_shown.specs.Groups.{group_number}
 use Rattle.qn_shown.specs.Kinds.{time_text}
 use Rattle.qn_shown.specs.Words.{mail_word}
 
@@ -26,8 +32,31 @@ abbrev pub items_of : {A : Type 0} → (A → Json) → List A → Items
 items_of spells [] = no_items
 items_of spells (a ∷ rest) = item (spells a) (items_of spells rest)
 
+-- what a node told, and the tick at which that came
+abbrev pub told_entries : Told → ℕ → List Entry
+told_entries told tick =
+    (codes "group", Some (whole (group_number told.group)))
+    ∷ (codes "held_ms", Some (whole told.held_ms))
+    ∷ (codes "holds", Some (boolean told.holds))
+    ∷ (codes "incarnation", Some (whole told.incarnation))
+    ∷ (codes "leaving", Some (boolean told.leaving))
+    ∷ (codes "quorate", Some (boolean told.quorate))
+    ∷ (codes "tick", Some (whole tick))
+    ∷ []
+
+abbrev pub heard_json : Heard → Option Json
+heard_json Unsaid = None
+heard_json Nothing = Some null
+heard_json (Said told tick) = Some (object (entries_members (told_entries told tick)))
+
 abbrev pub peer_entries : Peer → List Entry
-peer_entries peer = (codes "hello_tick", Some (json_or_null whole peer.hello_tick)) ∷ (codes "id", Some (id_json peer.id)) ∷ []
+peer_entries peer =
+    (codes "hello_tick", Some (json_or_null whole peer.hello_tick))
+    ∷ (codes "id", Some (id_json peer.id))
+    ∷ (codes "name", option_map string peer.name)
+    ∷ (codes "refused", option_map whole peer.refused)
+    ∷ (codes "told", heard_json peer.told)
+    ∷ []
 
 abbrev pub peer_json : Peer → Json
 peer_json peer = object (entries_members (peer_entries peer))
@@ -38,13 +67,29 @@ view_entries view = (codes "id", Some (whole view.id)) ∷ (codes "members", Som
 abbrev pub view_json : ShownView → Json
 view_json view = object (entries_members (view_entries view))
 
--- the keys, with their values; of `name` where there is one
+-- the group: nothing where there is none, null where nothing looks after it
+abbrev pub group_json : Group → Option Json
+group_json NoGroup = None
+group_json Down = Some (whole 1)
+group_json Looking = Some (whole 2)
+group_json Starting = Some (whole 3)
+group_json Runs = Some (whole 4)
+group_json Unsure = Some (whole 5)
+group_json Stopping = Some (whole 6)
+group_json Failed = Some (whole 7)
+group_json Stuck = Some (whole 8)
+group_json Maintenance = Some (whole 9)
+group_json Unattended = Some null
+
+-- the keys, with their values; `group`, `held_ms` and `name` are left out where they say nothing
 abbrev pub shown_entries : Shown → List Entry
 shown_entries s =
     (codes "dropped", Some (whole s.counts.dropped))
     ∷ (codes "end", Some (json_or_null string s.end))
     ∷ (codes "expected", Some (whole s.answer.expected))
     ∷ (codes "format", Some (whole 1))
+    ∷ (codes "group", group_json s.group)
+    ∷ (codes "held_ms", option_map whole s.held_ms)
     ∷ (codes "holds", Some (boolean s.holds))
     ∷ (codes "id", Some (id_json s.id))
     ∷ (codes "incarnation", Some (json_or_null whole s.incarnation))

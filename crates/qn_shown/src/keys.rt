@@ -1,12 +1,13 @@
 //! The keys of an object, each with a value of the kind that is asked for.
-ghost use Rattle.std.specs.Prelude.{◌≡◌, ◌≤◌, option_map};
+ghost use Rattle.std.specs.Prelude.{◌≡◌, ◌≤◌, codes, option_map};
 ghost use Rattle.std.specs.Result.{result_ok};
 ghost use Rattle.json.specs.Find.{as_bool, get};
 ghost use Rattle.json.specs.Value.{value_view};
 ghost use Rattle.qn_shown.specs.Kinds.{id_in, text_in, whole_in};
-ghost use Rattle.qn_shown.specs.Reading.{key_in, optional_in, or_null};
+ghost use Rattle.qn_shown.specs.Reading.{group_if_there, key_in, optional_in, or_null};
 
 use crate::fault::ShownFault;
+use crate::group::Group;
 use crate::kinds;
 use crate::short_string::ShortString;
 use json::Value;
@@ -69,6 +70,30 @@ pub(crate) fn text_or_null(
     }
     let text = kinds::text(value, 256).ok_or(ShownFault::Key(key))?;
     Ok(Some(text))
+}
+
+/// A whole number, where the key is there.
+pub(crate) fn whole_if_there(json: &Value<'_>, key: &'static str) -> Result<Option<u64>, ShownFault>
+    ensures { result_ok result ≡ optional_in whole_in key.now (value_view json.now) }
+{
+    match json.get(key) {
+        Some(value) => match kinds::whole(value) {
+            Some(number) => Ok(Some(number)),
+            None => Err(ShownFault::Key(key)),
+        },
+        None => Ok(None),
+    }
+}
+
+/// The group of the host, where the key is there.
+pub(crate) fn group_if_there(json: &Value<'_>) -> Result<Group, ShownFault>
+    ensures { result_ok result ≡ group_if_there (get (codes "group") (value_view json.now)) }
+{
+    match json.get("group") {
+        None => Ok(Group::NoGroup),
+        Some(value) if value.is_null() => Ok(Group::Unattended),
+        Some(value) => kinds::host_group(value).ok_or(ShownFault::Key("group")),
+    }
 }
 
 /// A text of at most `most` bytes, where the key is there.

@@ -1,8 +1,9 @@
 //! The kinds of values of a status file, each read from a value of JSON.
 ghost use Rattle.std.specs.Prelude.{◌≡◌, ◌≤◌};
 ghost use Rattle.json.specs.Value.{value_view};
-ghost use Rattle.qn_shown.specs.Kinds.{id_in, mail_in, period_in, phase_in, text_in, thousandths_in, time_in, time_of, whole_in};
+ghost use Rattle.qn_shown.specs.Kinds.{host_group_in, id_in, mail_in, period_in, phase_in, text_in, thousandths_in, time_in, time_of, told_group_in, whole_in};
 
+use crate::group::Group;
 use crate::short_string::ShortString;
 use crate::words::{MailState, mail_named, phase_named};
 use json::Value;
@@ -91,4 +92,22 @@ pub(crate) fn mail(json: &Value<'_>) -> Option<MailState>
     ensures { result ≡ mail_in (value_view json.now) }
 {
     mail_named(json.as_str()?)
+}
+
+/// The group that a node told, by its number.
+pub(crate) fn told_group(json: &Value<'_>) -> Option<Group>
+    ensures { result ≡ told_group_in (value_view json.now) }
+{
+    Group::of_number(whole(json)?)
+}
+
+/// The group that the supervisor of the host looks after, by its number.
+pub(crate) fn host_group(json: &Value<'_>) -> Option<Group>
+    ensures { result ≡ host_group_in (value_view json.now) }
+{
+    let group = told_group(json)?;
+    match group.number() {
+        1..=9 => Some(group),
+        _ => None,
+    }
 }

@@ -5,6 +5,7 @@
 #![tactic(auto)]
 
 mod fault;
+mod group;
 mod keys;
 mod kinds;
 mod laws;
@@ -12,11 +13,14 @@ mod lists;
 mod reading;
 mod short_string;
 mod shown;
+mod telling;
 mod words;
 
 pub use fault::ShownFault;
-pub use laws::{law_shown_read_back, law_words_read_back};
+pub use group::Group;
+pub use laws::{law_shown_read_back, law_told_read_back, law_words_read_back};
 pub use reading::read_shown;
 pub use short_string::ShortString;
-pub use shown::{Counts, Mailbox, Peer, Shown, ShownView};
+pub use shown::{Counts, Heard, Mailbox, Peer, Shown, ShownView, Told};
+pub use telling::{Spelling, get_told, put_told};
 pub use words::MailState;

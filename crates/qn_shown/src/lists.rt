@@ -1,12 +1,14 @@
 //! The lists of a status file: the ids of a view, and the other nodes.
-ghost use Rattle.std.specs.Prelude.{◌≡◌, option_and_then, option_map};
+ghost use Rattle.std.specs.Prelude.{◌≡◌, codes, option_and_then, option_map};
+ghost use Rattle.json.specs.Find.{get};
 ghost use Rattle.json.specs.Value.{items_view, value_view};
 ghost use Rattle.qn_shown.specs.Kinds.{id_in};
-ghost use Rattle.qn_shown.specs.Reading.{all_in, few, ids_in, peer_in, peers_in};
+ghost use Rattle.qn_shown.specs.Reading.{all_in, few, heard_of, ids_in, peer_in, peers_in, told_in};
 
 use crate::fault::ShownFault;
+use crate::keys::{text_if_there, whole_if_there, whole_or_null};
 use crate::kinds;
-use crate::shown::Peer;
+use crate::shown::{Heard, Peer, Told};
 use arrayvec::ArrayVec;
 use json::Value;
 use qn_base::NodeId;
@@ -65,12 +67,38 @@ fn peers_of(items: &[Value<'_>]) -> Option<ArrayVec<Peer, 32>>
 fn peer(json: &Value<'_>) -> Option<Peer>
     ensures { result ≡ peer_in (value_view json.now) }
 {
-    let hello = json.get("hello_tick")?;
-    let hello_tick = if hello.is_null() {
-        None
-    } else {
-        Some(kinds::whole(hello)?)
+    Some(Peer {
+        hello_tick: whole_or_null(json, "hello_tick").ok()?,
+        id: kinds::id(json.get("id")?)?,
+        name: text_if_there(json, "name", 63).ok()?,
+        refused: whole_if_there(json, "refused").ok()?,
+        told: heard(json)?,
+    })
+}
+
+/// What was heard of what a node tells: the key may be absent.
+fn heard(json: &Value<'_>) -> Option<Heard>
+    ensures { result ≡ heard_of (get (codes "told") (value_view json.now)) }
+{
+    match json.get("told") {
+        None => Some(Heard::Unsaid),
+        Some(value) if value.is_null() => Some(Heard::Nothing),
+        Some(value) => told(value),
+    }
+}
+
+/// What a node told.
+fn told(json: &Value<'_>) -> Option<Heard>
+    ensures { result ≡ told_in (value_view json.now) }
+{
+    let told = Told {
+        group: kinds::told_group(json.get("group")?)?,
+        held_ms: kinds::whole(json.get("held_ms")?)?,
+        holds: json.get("holds")?.as_bool()?,
+        incarnation: kinds::whole(json.get("incarnation")?)?,
+        leaving: json.get("leaving")?.as_bool()?,
+        quorate: json.get("quorate")?.as_bool()?,
     };
-    let id = kinds::id(json.get("id")?)?;
-    Some(Peer { hello_tick, id })
+    let tick = kinds::whole(json.get("tick")?)?;
+    Some(Heard::Said(told, tick))
 }

@@ -8,7 +8,10 @@ ghost use Rattle.json.specs.Value.{value_view};
 ghost use Rattle.qn_shown.specs.Reading.{answer_in, counts_in, key_in, mailbox_in, or_null, says_nothing, shown_in, shown_of, view_in};
 
 use crate::fault::ShownFault;
-use crate::keys::{id_or_null, text_if_there, text_or_null, truth, value, whole, whole_or_null};
+use crate::keys::{
+    group_if_there, id_or_null, text_if_there, text_or_null, truth, value, whole, whole_if_there,
+    whole_or_null,
+};
 use crate::shown::{Counts, Mailbox, Shown, ShownView};
 use crate::{kinds, lists};
 use json::{Error, Scratch, Value};
@@ -46,6 +49,8 @@ fn shown(json: &Value<'_>) -> Result<Shown, ShownFault>
         answer: answer(json)?,
         counts: counts(json)?,
         end: text_or_null(json, "end")?,
+        group: group_if_there(json)?,
+        held_ms: whole_if_there(json, "held_ms")?,
         holds: truth(json, "holds")?,
         id: kinds::id(value(json, "id")?).ok_or(ShownFault::Key("id"))?,
         incarnation: whole_or_null(json, "incarnation")?,

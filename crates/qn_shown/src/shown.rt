@@ -1,4 +1,5 @@
 //! What a node shows of itself (docs/STATUS.md).
+use crate::group::Group;
 use crate::short_string::ShortString;
 use crate::words::MailState;
 use arrayvec::ArrayVec;
@@ -13,6 +14,10 @@ pub struct Shown {
     pub counts: Counts,
     /// The line with which the node ended; None while it runs.
     pub end: Option<ShortString>,
+    /// How the group of resources of its host is.
+    pub group: Group,
+    /// For how many milliseconds it holds; None where it does not, or the file does not say.
+    pub held_ms: Option<u64>,
     /// Whether it holds the resource.
     pub holds: bool,
     pub id: NodeId,
@@ -67,9 +72,42 @@ pub struct ShownView {
     pub members: ArrayVec<NodeId, 32>,
 }
 
-/// Another configured node, and the tick of its last Hello; None where none came.
-#[derive(Clone, Copy, Default)]
+/// Another configured node.
+#[derive(Default, Drop)]
 pub struct Peer {
+    /// The tick of its last Hello; None where none came.
     pub hello_tick: Option<u64>,
     pub id: NodeId,
+    /// Its name, of at most 63 bytes; None where the file has none.
+    pub name: Option<ShortString>,
+    /// How many packets came from its address that no key opened; None where the file does not say.
+    pub refused: Option<u64>,
+    /// What it told of itself last.
+    pub told: Heard,
+}
+
+/// What was heard of what a node tells of itself.
+#[derive(Clone, Copy, Default)]
+pub enum Heard {
+    /// The file does not say: it is of a program that tells nothing.
+    #[default]
+    Unsaid,
+    /// It told nothing.
+    Nothing,
+    /// What it told last, and the tick at which that came.
+    Said(Told, u64),
+}
+
+/// What a node tells of itself.
+#[derive(Clone, Copy)]
+pub struct Told {
+    pub group: Group,
+    /// For how many milliseconds it holds; 0 where it does not.
+    pub held_ms: u64,
+    pub holds: bool,
+    /// The number of its boot.
+    pub incarnation: u64,
+    /// Whether it leaves.
+    pub leaving: bool,
+    pub quorate: bool,
 }

@@ -1,9 +1,7 @@
 -- What the status file of one node says, and when it says nothing of now. This project's profile.
 use Rattle.std.specs.Prelude.{ℕ, Bool, true, false, ◌+◌, ◌-◌, ◌*◌, ◌==◌, ◌||◌, List, [], Option, Some, None, is_some, if◌then◌else◌, nat_lt}
-use Rattle.std.specs.List.{list_any, list_all}
 use Rattle.qn_base.specs.declared.ids.NodeId.{NodeId}
 use Rattle.qn_model.specs.declared.disk.Message.TheVariants as message
-use Rattle.qn_shown.specs.declared.shown.Peer.{Peer}
 use Rattle.qn_shown.specs.declared.shown.Shown.{Shown}
 use Rattle.qn_shown.specs.declared.shown.ShownView.{ShownView}
 use Rattle.qn_shown.specs.declared.words.MailState.{MailState}
@@ -21,14 +19,6 @@ is_stale now file = is_some file.end || nat_lt now file.tick || nat_lt (3 * loop
 abbrev pub members_of : Option ShownView → List NodeId
 members_of (Some view) = view.members.items
 members_of None = []
-
--- the node counts that other one as present
-abbrev pub is_seen : Shown → Peer → Bool
-is_seen file peer = list_any (λ member. member.0 == peer.id.0) (members_of file.view)
-
--- the node counts all configured nodes as present
-abbrev pub sees_all : Shown → Bool
-sees_all file = list_all (is_seen file) file.peers.items
 
 -- no message but a test waits in the mailbox, as far as it was read
 abbrev pub is_quiet : MailState → Bool

@@ -1,3 +1,4 @@
 pub mod Files
+pub mod Voices
 pub mod Verdicts
 pub mod Texts

@@ -1,15 +1,11 @@
 -- What the status files of a cluster come to, at a moment of their host's monotonic clock. This project's profile; the statuses are
 -- those of a Nagios plug-in.
-use Rattle.std.specs.Prelude.{ℕ, Bool, true, false, ◌==◌, ◌&&◌, not, List, if◌then◌else◌, nat_lt, filter, length, codes}
+use Rattle.std.specs.Prelude.{ℕ, Bool, true, false, ◌&&◌, ◌||◌, not, List, if◌then◌else◌, nat_lt, filter, length, codes}
 use Rattle.std.specs.List.{list_any, list_all}
-use Rattle.qn_base.specs.declared.ids.NodeId.{NodeId}
 use Rattle.qn_shown.specs.declared.shown.Shown.{Shown}
 use Rattle.qn_verdict.specs.declared.verdict.Verdict.{Verdict}
 use Rattle.qn_verdict.specs.declared.verdict.Verdict.TheVariants.{Healthy, Degraded, NoOwner, Unknown}
-use Rattle.qn_verdict.specs.Files.{is_stale, is_quiet, members_of, sees_all}
-
-abbrev pub is_live : ℕ → Shown → Bool
-is_live now file = not (is_stale now file)
+use Rattle.qn_verdict.specs.Voices.{are_all_told, is_contested, is_held, is_held_twice, is_live, is_well}
 
 -- a live node that holds: what a silent node said last is no fact
 abbrev pub is_holder : ℕ → Shown → Bool
@@ -18,35 +14,24 @@ is_holder now file = is_live now file && file.holds
 abbrev pub holders : ℕ → List Shown → ℕ
 holders now files = length (filter (is_holder now) files)
 
--- a live node of these files has the id
-abbrev pub is_here : ℕ → List Shown → NodeId → Bool
-is_here now files id = list_any (λ file. is_live now file && (file.id.0 == id.0)) files
-
--- each member of the node's view is a live node of these files
-abbrev pub is_view_here : ℕ → List Shown → Shown → Bool
-is_view_here now files file = list_all (is_here now files) (members_of file.view)
-
--- a live node counts a node as present that is no live one of these files, and may hold
-abbrev pub is_owner_elsewhere : ℕ → List Shown → Bool
-is_owner_elsewhere now files = list_any (λ file. is_live now file && not (is_view_here now files file)) files
-
--- nothing is wrong with the node
-abbrev pub is_well : ℕ → Shown → Bool
-is_well now file = is_live now file && file.answer.quorate && sees_all file && is_quiet file.mailbox.state
+-- a node may hold that has no voice
+abbrev pub is_owner_unknown : ℕ → List Shown → Bool
+is_owner_unknown now files = list_any (λ file. is_live now file && not (are_all_told now files file)) files
 
 -- of live nodes of which none holds
 abbrev pub without_holder : ℕ → List Shown → Verdict
-without_holder now files = if is_owner_elsewhere now files then Degraded else NoOwner
+without_holder now files = if is_owner_unknown now files then Degraded else NoOwner
 
 -- of live nodes of which one holds
 abbrev pub with_holder : ℕ → List Shown → Verdict
-with_holder now files = if list_all (is_well now) files then Healthy else Degraded
+with_holder now files = if list_all (is_well now files) files then Healthy else Degraded
 
--- of live nodes
+-- of live nodes; where two hold one after the other, one hands over to the other
 abbrev pub of_live : ℕ → List Shown → Verdict
 of_live now files =
-    if nat_lt 1 (holders now files) then NoOwner
-    else if holders now files == 0 then without_holder now files else with_holder now files
+    if nat_lt 1 (holders now files) || is_contested now files then NoOwner
+    else if is_held_twice now files then Degraded
+    else if is_held now files then with_holder now files else without_holder now files
 
 abbrev pub judge : ℕ → List Shown → Verdict
 judge now files = if list_any (is_live now) files then of_live now files else Unknown

@@ -1,10 +1,10 @@
 //! What the status file of one node says of now, of its view and of its mailbox.
 ghost use Rattle.std.specs.Prelude.{◌≡◌, ◌*◌, ◌≤◌};
-ghost use Rattle.qn_verdict.specs.Files.{is_quiet, is_seen, is_stale, loop_of, members_of, sees_all};
+ghost use Rattle.qn_verdict.specs.Files.{is_quiet, is_stale, loop_of, members_of};
 
 use qn_base::NodeId;
 use qn_model::Message;
-use qn_shown::{MailState, Peer, Shown};
+use qn_shown::{MailState, Shown};
 
 /// Whether the file says nothing of this moment, in milliseconds of the host's monotonic clock: its node has ended, its tick is of
 /// another boot of the host, or it is older than three loops and a second (docs/STATUS.md).
@@ -19,12 +19,18 @@ pub fn miss_time(file: &Shown) -> u64
     ensures exact { result ≡ 3 * loop_of file.now }
     ensures bound { result ≤ 3 * 4294967295 }
 {
-    let loop_ms = if file.loop_ms == 0 {
+    3 * u64::from(loop_of(file))
+}
+
+/// The loop of the node in milliseconds: a second before it knows its image.
+pub(crate) fn loop_of(file: &Shown) -> u32
+    ensures { result ≡ loop_of file.now }
+{
+    if file.loop_ms == 0 {
         1000
     } else {
         file.loop_ms
-    };
-    3 * u64::from(loop_ms)
+    }
 }
 
 /// The nodes that the node counts as present; none where it has no view.
@@ -35,20 +41,6 @@ pub fn members(file: &Shown) -> &[NodeId]
         Some(view) => view.members.as_slice(),
         None => &[],
     }
-}
-
-/// Whether the node counts that other node as present.
-pub fn sees(file: &Shown, peer: &Peer) -> bool
-    ensures { result ≡ is_seen file.now peer.now }
-{
-    members(file).iter().any(|member| member.0 == peer.id.0)
-}
-
-/// Whether the node counts all configured nodes as present.
-pub fn sees_all(file: &Shown) -> bool
-    ensures { result ≡ sees_all file.now }
-{
-    file.peers.as_slice().iter().all(|peer| sees(file, peer))
 }
 
 /// Whether no message but a test waits in the mailbox, as far as it was read.

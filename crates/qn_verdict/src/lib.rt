@@ -7,7 +7,12 @@
 mod file;
 mod laws;
 mod verdict;
+mod voice;
 
-pub use file::{is_quiet, is_stale, members, miss_time, sees, sees_all};
+pub use file::{is_quiet, is_stale, members, miss_time};
 pub use laws::law_verdict;
-pub use verdict::{Verdict, is_holder, is_live, judge};
+pub use verdict::{Verdict, judge};
+pub use voice::{
+    Voice, are_all_told, has_voice, is_contested, is_fresh, is_heard, is_held, is_held_twice,
+    is_here, is_live, told_voice, voice_of,
+};

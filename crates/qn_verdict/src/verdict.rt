@@ -1,20 +1,20 @@
 //! What the status files of a cluster come to.
 ghost use Rattle.std.specs.Prelude.{◌≡◌};
 ghost use Rattle.std.specs.List.{list_all, list_any};
-ghost use Rattle.qn_verdict.specs.Verdicts.{holders, is_here, is_holder, is_live, is_owner_elsewhere, is_view_here, is_well, judge, of_live, with_holder, without_holder};
+ghost use Rattle.qn_verdict.specs.Verdicts.{holders, is_holder, is_owner_unknown, judge, of_live, with_holder, without_holder};
+ghost use Rattle.qn_verdict.specs.Voices.{is_live, is_well};
 
-use crate::file::{is_quiet, is_stale, members, sees_all};
-use qn_base::NodeId;
+use crate::voice::{are_all_told, is_contested, is_held, is_held_twice, is_live, is_well};
 use qn_shown::Shown;
 
 /// What the status files of a cluster come to. Its exit status is that of a Nagios plug-in.
 #[derive(Clone, Copy)]
 pub enum Verdict {
-    /// One live node holds, and nothing is wrong with any node.
+    /// One node holds, and nothing is wrong with any node.
     Healthy,
-    /// One live node holds, and something is wrong; or none of these nodes holds, and one that is not among them may.
+    /// One node holds, and something is wrong; one hands over to another; or none is known to hold, and one that says nothing may.
     Degraded,
-    /// No node holds, or two do.
+    /// No node holds, or two do at a time.
     NoOwner,
     /// No file says anything of now.
     Unknown,
@@ -74,28 +74,29 @@ pub fn judge(now: u64, files: &[Shown]) -> Verdict
 fn of_live(now: u64, files: &[Shown]) -> Verdict
     ensures { result ≡ of_live now files.now }
 {
-    let holders = holders(now, files);
-    if holders > 1 {
+    if holders(now, files) > 1 || is_contested(now, files) {
         Verdict::NoOwner
-    } else if holders == 0 {
-        without_holder(now, files)
-    } else {
+    } else if is_held_twice(now, files) {
+        Verdict::Degraded
+    } else if is_held(now, files) {
         with_holder(now, files)
+    } else {
+        without_holder(now, files)
     }
 }
 
-/// The same where no live node holds.
+/// The same where no node holds, by its own word.
 fn without_holder(now: u64, files: &[Shown]) -> Verdict
     ensures { result ≡ without_holder now files.now }
 {
-    if is_owner_elsewhere(now, files) {
+    if is_owner_unknown(now, files) {
         Verdict::Degraded
     } else {
         Verdict::NoOwner
     }
 }
 
-/// The same where one live node holds.
+/// The same where one node holds.
 fn with_holder(now: u64, files: &[Shown]) -> Verdict
     ensures { result ≡ with_holder now files.now }
 {
@@ -115,20 +116,13 @@ fn has_live(now: u64, files: &[Shown]) -> bool
 
 /// Whether nothing is wrong with any node.
 fn are_well(now: u64, files: &[Shown]) -> bool
-    ensures { result ≡ list_all (is_well now) files.now }
+    ensures { result ≡ list_all (is_well now files.now) files.now }
 {
-    files.iter().all(|file| is_well(now, file))
-}
-
-/// Whether the file says what is so now.
-pub fn is_live(now: u64, file: &Shown) -> bool
-    ensures { result ≡ is_live now file.now }
-{
-    !is_stale(now, file)
+    files.iter().all(|file| is_well(now, files, file))
 }
 
 /// Whether the node is live and holds.
-pub fn is_holder(now: u64, file: &Shown) -> bool
+fn is_holder(now: u64, file: &Shown) -> bool
     ensures { result ≡ is_holder now file.now }
 {
     is_live(now, file) && file.holds
@@ -141,34 +135,9 @@ fn holders(now: u64, files: &[Shown]) -> usize
     files.iter().filter(|file| is_holder(now, file)).count()
 }
 
-/// Whether a node that is none of these live ones may hold: one of them counts it as present.
-fn is_owner_elsewhere(now: u64, files: &[Shown]) -> bool
-    ensures { result ≡ is_owner_elsewhere now files.now }
+/// Whether a node may hold that has no voice.
+fn is_owner_unknown(now: u64, files: &[Shown]) -> bool
+    ensures { result ≡ is_owner_unknown now files.now }
 {
-    files.iter().any(|file| is_live(now, file) && !is_view_here(now, files, file))
-}
-
-/// Whether each member of the node's view is a live one of these.
-fn is_view_here(now: u64, files: &[Shown], file: &Shown) -> bool
-    ensures { result ≡ is_view_here now files.now file.now }
-{
-    members(file)
-        .iter()
-        .all(|member| is_here(now, files, *member))
-}
-
-/// Whether a live node of these files has the id.
-fn is_here(now: u64, files: &[Shown], id: NodeId) -> bool
-    ensures { result ≡ is_here now files.now id }
-{
-    files
-        .iter()
-        .any(|file| is_live(now, file) && file.id.0 == id.0)
-}
-
-/// Whether nothing is wrong with the node.
-fn is_well(now: u64, file: &Shown) -> bool
-    ensures { result ≡ is_well now file.now }
-{
-    is_live(now, file) && file.answer.quorate && sees_all(file) && is_quiet(file.mailbox.state)
+    files.iter().any(|file| is_live(now, file) && !are_all_told(now, files, file))
 }

@@ -2,7 +2,7 @@
 
 use crate::trouble::Trouble;
 use qn_machine::steady_time;
-use qn_shown::Shown;
+use qn_shown::{Heard, Shown};
 use std::time::Clock;
 
 /// Two clocks that are less than so many milliseconds apart are one, for a tick that is after neither.
@@ -36,6 +36,9 @@ impl Clocks {
         file.mailbox.tick = file.mailbox.tick.map(|tick| self.steadied(tick));
         for peer in file.peers.as_mut_slice() {
             peer.hello_tick = peer.hello_tick.map(|tick| self.steadied(tick));
+            if let Heard::Said(told, tick) = peer.told {
+                peer.told = Heard::Said(told, self.steadied(tick));
+            }
         }
     }
 

@@ -72,7 +72,15 @@ fn usage_status(words: &[String]) -> u8 {
 
 /// Runs the command that the words are.
 fn run<
-    R: Files<File = File> + Net<Stream = TcpStream> + Clock + Print + Eprint + Input + AllocGlobal,
+    R: Files<File = File>
+        + Net<Stream = TcpStream>
+        + Clock
+        + Print
+        + Eprint
+        + Input
+        + AllocGlobal
+        + Clone
+        + Drop,
 >(rt: &R, words: &[String]) -> Result<u8, Trouble> {
     let [name, options @ ..] = words else {
         return Ok(USAGE);

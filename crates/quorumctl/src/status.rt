@@ -11,7 +11,7 @@ use qn_control::{
 use qn_usage::{file_of, has_word, value_of};
 use qn_verdict::Verdict;
 use std::alloc::{AllocError, Global};
-use std::fs::File;
+use std::fs::{self, File};
 use std::net::{Net, TcpStream};
 use std::rt::Files;
 use std::time::Clock;
@@ -21,6 +21,9 @@ const WATCH: u64 = 1000;
 
 /// What a terminal does before a text of `--watch`: the cursor to the first place, and all behind it is erased (ECMA-48, CUP and ED).
 const ERASE: &str = "\u{1b}[H\u{1b}[J";
+
+/// Where systemd's unit has each node of this host write its status file, as `node-ID.json`.
+const HERE: &str = "/run/quorumd";
 
 /// The form of the text.
 #[derive(Clone, Copy)]
@@ -39,7 +42,14 @@ struct Seen {
 
 /// `status`: the words are those of the command. The exit status is the verdict's, and that of an unknown state where there is trouble.
 pub fn status<
-    R: Files<File = File> + Net<Stream = TcpStream> + Clock + Print + Eprint + AllocGlobal,
+    R: Files<File = File>
+        + Net<Stream = TcpStream>
+        + Clock
+        + Print
+        + Eprint
+        + AllocGlobal
+        + Clone
+        + Drop,
 >(rt: &R, words: &[String]) -> u8 {
     let ended = if has_word(words, "--watch") {
         watch(rt, words)
@@ -57,7 +67,14 @@ pub fn status<
 
 /// Writes what the files say.
 fn look_once<
-    R: Files<File = File> + Net<Stream = TcpStream> + Clock + Print + Eprint + AllocGlobal,
+    R: Files<File = File>
+        + Net<Stream = TcpStream>
+        + Clock
+        + Print
+        + Eprint
+        + AllocGlobal
+        + Clone
+        + Drop,
 >(rt: &R, words: &[String]) -> Result<Verdict, Trouble> {
     let form = if has_word(words, "--json") {
         Form::Json
@@ -72,10 +89,16 @@ fn look_once<
 }
 
 /// Writes what the files say again and again, until it is interrupted.
-fn watch<R: Files<File = File> + Net<Stream = TcpStream> + Clock + Print + Eprint + AllocGlobal>(
-    rt: &R,
-    words: &[String],
-) -> Result<Verdict, Trouble> {
+fn watch<
+    R: Files<File = File>
+        + Net<Stream = TcpStream>
+        + Clock
+        + Print
+        + Eprint
+        + AllocGlobal
+        + Clone
+        + Drop,
+>(rt: &R, words: &[String]) -> Result<Verdict, Trouble> {
     for _ in 0..u64::MAX {
         let seen = see(rt, words)?;
         let text = text_of(rt.alloc(), &seen, Form::Table)?;
@@ -86,23 +109,22 @@ fn watch<R: Files<File = File> + Net<Stream = TcpStream> + Clock + Print + Eprin
 }
 
 /// Reads the files and the image. The clocks are read after them, so that no file is of a later moment.
-fn see<R: Files<File = File> + Net<Stream = TcpStream> + Clock + Eprint + AllocGlobal>(
-    rt: &R,
-    words: &[String],
-) -> Result<Seen, Trouble> {
+fn see<
+    R: Files<File = File> + Net<Stream = TcpStream> + Clock + Eprint + AllocGlobal + Clone + Drop,
+>(rt: &R, words: &[String]) -> Result<Seen, Trouble> {
     let mut cluster = ClusterStatus {
         now: 0,
         nodes: Vec::new(rt.alloc()),
         unread: Vec::new(rt.alloc()),
     };
+    if file_of(QUORUMCTL, words, 0).is_none() {
+        add_here(rt, &mut cluster)?;
+    }
     for number in 0..words.len() {
         let Some(path) = file_of(QUORUMCTL, words, number) else {
             break;
         };
-        match read_status_file(rt, path) {
-            Ok(node) => cluster.nodes.push(node)?,
-            Err(refusal) => add_unread(rt.alloc(), &mut cluster, path, &refusal)?,
-        }
+        add_file(rt, &mut cluster, path)?;
     }
     let image = match value_of(words, "--image") {
         Some(path) => see_image(rt, &mut cluster, path)?,
@@ -114,6 +136,39 @@ fn see<R: Files<File = File> + Net<Stream = TcpStream> + Clock + Eprint + AllocG
         clocks.steady_file(node);
     }
     Ok(Seen { cluster, image })
+}
+
+/// Adds the status file of that path, or that it cannot be read.
+fn add_file<R: Files<File = File> + AllocGlobal>(
+    rt: &R,
+    cluster: &mut ClusterStatus,
+    path: &str,
+) -> Result<(), Trouble> {
+    match read_status_file(rt, path) {
+        Ok(node) => cluster.nodes.push(node)?,
+        Err(refusal) => add_unread(rt.alloc(), cluster, path, &refusal)?,
+    }
+    Ok(())
+}
+
+/// Adds the status files of the nodes that systemd started on this host; where there is none, it is trouble.
+fn add_here<R: Files<File = File> + AllocGlobal + Clone + Drop>(
+    rt: &R,
+    cluster: &mut ClusterStatus,
+) -> Result<(), Trouble> {
+    let mut is_any = false;
+    if let Ok(entries) = fs::read_dir(rt, HERE) {
+        for entry in entries {
+            let entry = entry.map_err(Trouble::System)?;
+            let name = entry.file_name();
+            if name.starts_with("node-") && name.ends_with(".json") {
+                let path = format!(in rt.alloc(); "{HERE}/{name}")?;
+                add_file(rt, cluster, path.as_str())?;
+                is_any = true;
+            }
+        }
+    }
+    if is_any { Ok(()) } else { Err(Trouble::NoNode) }
 }
 
 /// Adds a file that is no status file.

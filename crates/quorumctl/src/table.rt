@@ -34,9 +34,9 @@ pub const QUORUMCTL: &[Synopsis] = &[
         does: "returns when the message to a node was read, or msgwait has passed",
     },
     Synopsis {
-        line: "status [--json|--prometheus|--watch] [--image PATH] FILE..",
+        line: "status [--json|--prometheus|--watch] [--image PATH] [FILE..]",
         reads: "",
-        does: "what the status files of the nodes of this host come to",
+        does: "what the status files of the nodes of this host come to; without FILE those in /run/quorumd",
     },
     Synopsis {
         line: "history [FILE..]",

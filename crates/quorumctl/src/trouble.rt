@@ -16,6 +16,8 @@ pub enum Trouble {
     System(io::Error),
     /// The line of this number on standard input is not taken, for this reason.
     Line(u64, &'static str),
+    /// No node writes a status file on this host.
+    NoNode,
     /// Out of memory.
     NoMemory,
 }
@@ -35,7 +37,7 @@ impl Trouble {
             Trouble::Line(..) => 4,
             Trouble::Input(_) => 6,
             Trouble::Output(_) => WRITE_FAULT,
-            Trouble::File(..) | Trouble::System(_) => 8,
+            Trouble::File(..) | Trouble::System(_) | Trouble::NoNode => 8,
             Trouble::NoMemory => NO_MEMORY,
         }
     }
@@ -49,6 +51,9 @@ impl fmt::Display for Trouble {
             Trouble::File(word, error) => write!(f, "{word}: {error}"),
             Trouble::System(error) => write!(f, "{error}"),
             Trouble::Line(number, why) => write!(f, "standard input: line {number}: {why}"),
+            Trouble::NoNode => f.write_str(
+                "no node was started on this host since its boot: systemctl status 'quorumd@*'",
+            ),
             Trouble::NoMemory => write!(f, "out of memory"),
         }
     }

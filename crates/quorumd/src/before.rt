@@ -1,5 +1,5 @@
 //! The words before the command: `--links CONF`, `--key FILE` up to three times, `--open`, `--seal-meaning`, `--halt FILE`, `--status FILE`,
-//! `--leave-file FILE`, `--blank` and `--anew`, in any order.
+//! `--leave-file FILE`, `--group FILE`, `--blank` and `--anew`, in any order.
 use crate::edge::ARBITER;
 use std::fmt;
 use std::fmt::Display;
@@ -8,7 +8,7 @@ use std::fmt::Display;
 pub const MOST_KEYS: usize = 3;
 
 /// The most words that may stand before the command: two for each but `--open`, `--seal-meaning`, `--blank` and `--anew`.
-const MOST_WORDS: u32 = 18;
+const MOST_WORDS: u32 = 20;
 
 /// What the words before the command say.
 #[derive(Clone, Copy, Default)]
@@ -20,6 +20,7 @@ pub struct Before<'words> {
     pub halt: Option<&'words str>,
     pub status: Option<&'words str>,
     pub leave: Option<&'words str>,
+    pub group: Option<&'words str>,
     pub is_blank: bool,
     pub is_anew: bool,
     /// How many words these are.
@@ -39,6 +40,7 @@ pub enum WordFault<'words> {
     StatusWithoutNode,
     StatusPath,
     LeaveWithoutNode,
+    GroupWithoutNode,
     BlankWithoutCreate,
     AnewWithoutCreate,
 }
@@ -62,6 +64,7 @@ impl<'words> Display for WordFault<'words> {
             }
             WordFault::StatusPath => f.write_str("--status: a path has 1 to 4090 bytes"),
             WordFault::LeaveWithoutNode => f.write_str("--leave-file stands before a node alone"),
+            WordFault::GroupWithoutNode => f.write_str("--group stands before a node alone"),
             WordFault::BlankWithoutCreate => f.write_str("--blank stands before create alone"),
             WordFault::AnewWithoutCreate => f.write_str("--anew stands before create alone"),
         }
@@ -78,6 +81,7 @@ enum Word {
     Halt,
     Status,
     LeaveFile,
+    Group,
     Blank,
     Anew,
 }
@@ -93,6 +97,7 @@ impl Word {
             "--halt" => Some(Word::Halt),
             "--status" => Some(Word::Status),
             "--leave-file" => Some(Word::LeaveFile),
+            "--group" => Some(Word::Group),
             "--blank" => Some(Word::Blank),
             "--anew" => Some(Word::Anew),
             _ => None,
@@ -130,7 +135,8 @@ impl<'words> Before<'words> {
             Word::SealMeaning => return say_once(&mut self.seals_meaning, text),
             Word::Blank => return say_once(&mut self.is_blank, text),
             Word::Anew => return say_once(&mut self.is_anew, text),
-            Word::Links | Word::Key | Word::Halt | Word::Status | Word::LeaveFile => {}
+            Word::Links | Word::Key | Word::Halt | Word::Status | Word::LeaveFile | Word::Group =>
+                {}
         }
         let value = words.get(self.count).map(String::as_str);
         let Some(value) = value.filter(|value| Word::of(value).is_none()) else {
@@ -142,6 +148,7 @@ impl<'words> Before<'words> {
             Word::Halt => put_once(&mut self.halt, text, value),
             Word::Status => put_once(&mut self.status, text, value),
             Word::LeaveFile => put_once(&mut self.leave, text, value),
+            Word::Group => put_once(&mut self.group, text, value),
             Word::Key => self.key(value),
             Word::Open | Word::SealMeaning | Word::Blank | Word::Anew => Ok(()),
         }
@@ -167,6 +174,9 @@ impl<'words> Before<'words> {
         }
         if self.seals_meaning && !is_running(command) {
             return Err(WordFault::MeaningWithoutNode);
+        }
+        if self.group.is_some() && !is_node(command) {
+            return Err(WordFault::GroupWithoutNode);
         }
         if self.is_blank && command != "create" {
             return Err(WordFault::BlankWithoutCreate);

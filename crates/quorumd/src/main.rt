@@ -57,7 +57,7 @@ fn run(rt: &HostRuntime, said: Outside<'_>, words: &[String]) -> u8 {
     let mut input = SameText::new(input, lines.over(rt), said.text.as_ref());
     let mut out = StdSink::new(io::writer(rt), lines.over(rt));
     let mut env = RealEnv::new(SteadyHost::new(rt), said.edge, &lines);
-    let mut journal = journal_of(&host, process::id(rt.process()), &lines, said.status);
+    let mut journal = journal_of(&host, process::id(rt.process()), &lines, said.files);
     let status = top(
         rt.alloc(),
         words,
@@ -72,16 +72,16 @@ fn run(rt: &HostRuntime, said: Outside<'_>, words: &[String]) -> u8 {
     status
 }
 
-/// The journal of a node, of the process of that number, with the status file of that path.
+/// The journal of a node, of the process of that number, with the files of these paths.
 #[inline(never)]
 fn journal_of<'a, 'host>(
     host: &'a SteadyHost<'host>,
     pid: u32,
     lines: &'a Lines,
-    path: Option<&str>,
+    files: NodeFiles<'a>,
 ) -> Journal<'a, SteadyHost<'host>> {
-    let status = path.and_then(ReplacedFile::at);
-    Journal::new(host, lines, status, pid)
+    let status = files.status.and_then(ReplacedFile::at);
+    Journal::new(host, lines, status, files.group, pid)
 }
 
 /// Whether standard error goes to systemd's journal.
@@ -90,12 +90,18 @@ fn is_in_journal(rt: &(impl Env + AllocGlobal)) -> bool {
     env::var(rt, "JOURNAL_STREAM").is_ok()
 }
 
-/// What the words before the command say of the outside, the path of the status file, which can be one, and the settings text that is to come on
-/// standard input.
+/// The paths of the status file, which can be one, and of the file in which a supervisor says how the group is.
+#[derive(Clone, Copy)]
+struct NodeFiles<'words> {
+    status: Option<&'words str>,
+    group: Option<&'words str>,
+}
+
+/// What the words before the command say of the outside, of the files of a node, and the settings text that is to come on standard input.
 #[derive(Drop)]
 struct Outside<'words> {
     edge: Edge,
-    status: Option<&'words str>,
+    files: NodeFiles<'words>,
     text: Option<Text<'words>>,
 }
 
@@ -109,13 +115,16 @@ fn before_command<'words, R: Files<File = File> + AllocGlobal + Eprint>(
     if let Some(path) = before.status {
         check_status(rt, path)?;
     }
-    let status = before.status;
+    let files = NodeFiles {
+        status: before.status,
+        group: before.group,
+    };
     let count = before.count.min(words.len());
     let words = words.split_at(count).1;
     let command = words.first().map_or("", String::as_str);
     let (edge, text) = edge_of(rt, &before, command)?;
     let text = text.filter(|_| is_running(command));
-    Ok((Outside { edge, status, text }, words))
+    Ok((Outside { edge, files, text }, words))
 }
 
 /// Whether the status can be put into a file of that path, where nothing but a file is replaced; or the status to end with.

@@ -11,7 +11,8 @@ returns-clause-two_holders c = λ now nodes fit two. judged c.law_shown_read_bac
 
 pub returns-clause-one_holder : goal.returns-clause-one_holder
 returns-clause-one_holder c = λ now nodes fit healthy.
-    (healthy_parts now nodes (same_Some (judge now nodes) Healthy (sym (judged c.law_shown_read_back.ensures now nodes fit) ∙ healthy))).one
+    let parts = healthy_parts now nodes (same_Some (judge now nodes) Healthy (sym (judged c.law_shown_read_back.ensures now nodes fit) ∙ healthy)) in
+    (parts.held, parts.once)
 
 pub returns-clause-fresh : goal.returns-clause-fresh
 returns-clause-fresh c = λ now nodes fit healthy.
