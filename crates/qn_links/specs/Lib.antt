@@ -1,4 +1,5 @@
-pub mod Arbiters
 pub mod Links
 pub mod Faults
+pub mod Arbiters
+pub mod Devices
 pub mod Meaning
