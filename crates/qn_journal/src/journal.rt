@@ -5,6 +5,7 @@ use crate::arbiter::ArbiterNews;
 use crate::ending::end_text;
 use crate::group_file::group_of_file;
 use crate::mail::{MailNews, MailState, Mailbox};
+use crate::node_names::NodeNames;
 use crate::peers::Peers;
 use crate::seldom::Seldom;
 use crate::status_text::{Counts, Shown, status_text};
@@ -31,6 +32,9 @@ use std::time::Clock;
 /// How many sectors an image of three has.
 const IMAGE: u32 = 1024;
 
+/// The most bytes of a name.
+const MOST_NAME: usize = 63;
+
 /// How old a status becomes before it is written anew, in milliseconds.
 const AGE: u64 = 500;
 
@@ -43,6 +47,7 @@ pub struct Journal<'a, R: Files<File = File> + Clock + Eprint> {
     status: Option<ReplacedFile>,
     /// The path of the file in which the supervisor of the host's resources says how their group is.
     group: Option<&'a str>,
+    names: NodeNames<'a>,
     pid: u32,
     telling: Telling,
     observer: Observer,
@@ -65,13 +70,14 @@ pub struct Journal<'a, R: Files<File = File> + Clock + Eprint> {
 }
 
 impl<'a, R: Files<File = File> + Clock + Eprint> Journal<'a, R> {
-    /// A journal by these lines, of the process of that number, with that status file, and with the file of that path in which the supervisor of the
-    /// host's resources says how their group is.
+    /// A journal by these lines, of the process of that number, with that status file, with the file of that path in which the supervisor of the
+    /// host's resources says how their group is, and with these names of the nodes.
     pub fn new(
         rt: &'a R,
         lines: &'a Lines,
         status: Option<ReplacedFile>,
         group: Option<&'a str>,
+        names: NodeNames<'a>,
         pid: u32,
     ) -> Journal<'a, R> {
         Journal {
@@ -79,6 +85,7 @@ impl<'a, R: Files<File = File> + Clock + Eprint> Journal<'a, R> {
             lines,
             status,
             group,
+            names,
             pid,
             telling: Telling::new(),
             observer: Observer::new(),
@@ -145,7 +152,8 @@ impl<'a, R: Files<File = File> + Clock + Eprint> Journal<'a, R> {
             return;
         }
         if self.peers.hear(rank, tick) {
-            let line = peer_seen(self.now(), nodes.id_of(rank));
+            let mut line = peer_seen(self.now(), nodes.id_of(rank));
+            add_name(&mut line, self.names.of(rank));
             self.say(&line);
         }
     }
@@ -154,7 +162,8 @@ impl<'a, R: Files<File = File> + Clock + Eprint> Journal<'a, R> {
     fn miss(&mut self, tick: u64, run: &NodeRun) {
         for (rank, node) in run.settings().nodes.as_slice().iter().enumerate() {
             if let Some(silent) = self.peers.lose(rank, tick, run.loop_ms()) {
-                let line = peer_lost(self.now(), node.id, silent);
+                let mut line = peer_lost(self.now(), node.id, silent);
+                add_name(&mut line, self.names.at(rank));
                 self.say(&line);
             }
         }
@@ -162,7 +171,10 @@ impl<'a, R: Files<File = File> + Clock + Eprint> Journal<'a, R> {
 
     /// Tells an event.
     fn tell(&mut self, event: &Event, run: &NodeRun) {
-        let line = event_line(self.now(), &run.settings().nodes, self.msgwait, event);
+        let mut line = event_line(self.now(), &run.settings().nodes, self.msgwait, event);
+        if let Some(rank) = subject_of(event, run.rank()) {
+            add_name(&mut line, self.names.of(rank));
+        }
         self.say(&line);
     }
 
@@ -251,6 +263,7 @@ impl<'a, R: Files<File = File> + Clock + Eprint> Journal<'a, R> {
             at: self.lines.moment(self.rt),
             pid: self.pid,
             nodes: &run.settings().nodes,
+            names: self.names,
             me: run.rank(),
             standing: &standing,
             loop_ms: run.loop_ms(),
@@ -286,6 +299,37 @@ impl<'a, R: Files<File = File> + Clock + Eprint> Journal<'a, R> {
                 self.is_failing = true;
             }
         }
+    }
+}
+
+/// Adds the name of a node, where it has one, as the last word of a line.
+fn add_name(line: &mut EventLine, name: Option<&str>) {
+    if let Some(name) = name {
+        line.word(b"name", name.as_bytes(), MOST_NAME);
+    }
+}
+
+/// Of which node an event of the node of that rank tells, where its line has an id besides that of its own node, or the number of a boot.
+fn subject_of(event: &Event, me: Rank) -> Option<Rank> {
+    match *event {
+        Event::Claimed { .. } => Some(me),
+        Event::FenceAsked { of } | Event::FenceWritten { of, .. } | Event::Licence { of } => Some(
+            of,
+        ),
+        Event::Phase { .. }
+        | Event::View { .. }
+        | Event::Released
+        | Event::QuorumWon { .. }
+        | Event::QuorumLost { .. }
+        | Event::Why { .. }
+        | Event::StartAsked
+        | Event::StopAsked
+        | Event::StartAnswered { .. }
+        | Event::StopAnswered { .. }
+        | Event::DisarmAnswered { .. }
+        | Event::HoldWon
+        | Event::HoldLost
+        | Event::Halt { .. } => None,
     }
 }
 

@@ -10,6 +10,7 @@ mod ending;
 mod group_file;
 mod journal;
 mod mail;
+mod node_names;
 mod peers;
 mod seldom;
 mod status_text;
@@ -17,3 +18,4 @@ mod telling;
 mod text;
 
 pub use journal::Journal;
+pub use node_names::NodeNames;

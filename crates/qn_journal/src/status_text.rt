@@ -1,5 +1,6 @@
 //! The status of a running node as one object of JSON, with its keys in alphabetical order.
 use crate::mail::{MailState, Mailbox};
+use crate::node_names::NodeNames;
 use crate::peers::Peers;
 use crate::telling::Telling;
 use crate::text::Text;
@@ -28,6 +29,7 @@ pub(crate) struct Shown<'a> {
     pub(crate) at: Moment,
     pub(crate) pid: u32,
     pub(crate) nodes: &'a Nodes,
+    pub(crate) names: NodeNames<'a>,
     pub(crate) me: Rank,
     pub(crate) standing: &'a Standing,
     pub(crate) loop_ms: u64,
@@ -116,6 +118,15 @@ fn add_mail(text: &mut Text, shown: &Shown<'_>) {
     text.maybe(by.map(|sender| u64::from(sender.id.0)));
     text.add(b",\"mail_tick\":");
     text.maybe(shown.mailbox.tick);
+    add_name(text, shown.names.of(shown.me));
+}
+
+/// The name of a node, where it has one.
+fn add_name(text: &mut Text, name: Option<&str>) {
+    if let Some(name) = name {
+        text.add(b",\"name\":");
+        text.string(name);
+    }
 }
 
 fn add_peers(text: &mut Text, shown: &Shown<'_>) {
@@ -131,6 +142,7 @@ fn add_peers(text: &mut Text, shown: &Shown<'_>) {
             text.maybe(shown.peers.hello(rank));
             text.add(b",\"id\":");
             text.number(u64::from(node.id.0));
+            add_name(text, shown.names.at(rank));
             text.add(b",\"refused\":");
             text.number(shown.voices.refused(rank));
             add_heard(text, shown.voices.heard(rank));

@@ -2,7 +2,8 @@
 use arrayvec::ArrayVec;
 use qn_base::write_decimal;
 
-/// The most bytes of a status: that of 32 nodes whose ids have ten digits, and of which each told something, is shorter.
+/// The most bytes of a status: that of 32 nodes whose ids have ten digits and whose names have 63 bytes, and of which each told something, is
+/// shorter.
 const TEXT: usize = 12_288;
 
 /// A text while it is put together.
@@ -43,6 +44,18 @@ impl Text {
             Some(number) => self.number(number),
             None => self.add(b"null"),
         }
+    }
+
+    /// A text as a string of JSON, of which the quote and the backslash stand behind a backslash (RFC 8259, section 7). It has no control character.
+    pub(crate) fn string(&mut self, text: &str) {
+        self.add(b"\"");
+        for byte in text.as_bytes() {
+            if matches!(*byte, b'"' | b'\\') {
+                self.add(b"\\");
+            }
+            self.add(&[*byte]);
+        }
+        self.add(b"\"");
     }
 
     pub(crate) fn as_slice(&self) -> &[u8] {

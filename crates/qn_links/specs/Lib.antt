@@ -3,3 +3,4 @@ pub mod Faults
 pub mod Arbiters
 pub mod Devices
 pub mod Meaning
+pub mod Names

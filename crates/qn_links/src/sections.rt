@@ -1,15 +1,17 @@
-//! The sections of a settings text that say where its nodes are.
+//! The sections of a settings text that say where its nodes are, and by which name.
 use qn_base::{NodeId, read_decimal};
 use qn_conf::{Item, Tree};
 use std::alloc::{AllocError, Global};
 
-/// What a node section says of where its node is: the last value of each key.
+/// What a node section says of where its node is and how it is called: the last value of each key.
 #[derive(Clone, Copy)]
 pub struct NodeSection<'text> {
     /// `nodeid`; 0 where none is written.
     pub id: NodeId,
     /// `ring0_addr`
     pub address: Option<&'text [u8]>,
+    /// `name`
+    pub name: Option<&'text [u8]>,
     /// Whether there is a `ring1_addr`.
     pub has_second: bool,
 }
@@ -22,6 +24,8 @@ impl<'text> NodeSection<'text> {
             self.id = NodeId(id.unwrap_or(0));
         } else if key == b"ring0_addr".as_slice() {
             self.address = Some(value);
+        } else if key == b"name".as_slice() {
+            self.name = Some(value);
         } else if key == b"ring1_addr".as_slice() {
             self.has_second = true;
         }
@@ -51,6 +55,7 @@ impl<'text> Walk<'text> {
                     self.sections.push(NodeSection {
                         id: NodeId(0),
                         address: None,
+                        name: None,
                         has_second: false,
                     })?;
                 }
