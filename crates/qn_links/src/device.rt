@@ -3,6 +3,7 @@ ghost use Rattle.std.specs.Prelude.{◌≡◌, ◌↔◌, ◌<◌, ◌-◌, ◌^
 ghost use Rattle.qn_links.specs.Arbiters.{HasHost, host_of, port_text};
 ghost use Rattle.qn_links.specs.Devices.{innermost, inside, last_in_net, open_after, value_in};
 ghost use Rattle.qn_conf.specs.Line.{or_else};
+ghost use Rattle.std.specs.declared.net.ip_addr.IpAddr.{IpAddr};
 
 use crate::links::address_of_machine;
 use qn_conf::{Item, Tree};
