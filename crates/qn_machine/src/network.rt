@@ -58,16 +58,7 @@ impl Network {
         rank: Rank,
     ) -> io::Result<Network> {
         let peers = peers_of(edge, first_port, rank);
-        let arbiter = address_of_arbiter(edge, first_port);
-        let is_arbiter = rank.0 == ARBITER;
-        let own = if is_arbiter {
-            arbiter
-        } else {
-            peers.address_of(rank.0)
-        };
-        let Some(own) = own else {
-            return Err(io::Error::new(ErrorKind::InvalidInput, "no address of this node"));
-        };
+        let (own, arbiter) = places_of(edge, &peers, first_port, rank)?;
         let host = IpAddr::V4(Ipv4Addr::LOCALHOST);
         let lock = if own.ip() == host {
             None
@@ -91,7 +82,7 @@ impl Network {
             takes_votes: edge.takes_votes(),
             admission: Admission {
                 peers,
-                arbiter: arbiter.filter(|_| !is_arbiter),
+                arbiter,
                 receiver,
             },
             sealing,
@@ -258,6 +249,25 @@ fn peers_of(edge: &Edge, first_port: u16, rank: Rank) -> Peers {
         addresses: edge.addresses.unwrap_or(everywhere),
         first_port,
         own: rank.0,
+    }
+}
+
+/// Where the node of that rank is, or the arbiter as rank 32; and where the arbiter is that this node polls.
+fn places_of(
+    edge: &Edge,
+    peers: &Peers,
+    first_port: u16,
+    rank: Rank,
+) -> io::Result<(SocketAddr, Option<SocketAddr>)> {
+    let arbiter = address_of_arbiter(edge, first_port);
+    let (own, polled) = if rank.0 == ARBITER {
+        (arbiter, None)
+    } else {
+        (peers.address_of(rank.0), arbiter)
+    };
+    match own {
+        Some(own) => Ok((own, polled)),
+        None => Err(io::Error::new(ErrorKind::InvalidInput, "no address of this node")),
     }
 }
 
