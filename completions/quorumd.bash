@@ -7,7 +7,7 @@ _quorumd_takes() {
     case $* in
     quorumd)
         commands=(count replay status soak create dump list message node migrate replay3 node3 replay-arbiter node-logged audit node3-logged arbiter help)
-        options=(--links/file/--links --key/file/ --open//--open --seal-meaning//--seal-meaning --halt/file/--halt --status/file/--status --leave-file/file/--leave-file --blank//--blank --anew//--anew)
+        options=(--links/file/--links --key/file/ --open//--open --seal-meaning//--seal-meaning --halt/file/--halt --status/file/--status --leave-file/file/--leave-file --group/file/--group --blank//--blank --anew//--anew)
         ;;
     'quorumd status')
         options=('--form/words text json/--form')
