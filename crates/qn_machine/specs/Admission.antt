@@ -23,6 +23,14 @@ is_vote bytes = length bytes == 4 && slice_index bytes 0 == 81 && slice_index by
 abbrev pub is_request : List ℕ → Bool
 is_request bytes = length bytes == 4 && slice_index bytes 0 == 81 && slice_index bytes 1 == 78 && slice_index bytes 2 == 12
 
+-- what the node's own host says of it: `QN`, kind 13, and two bytes more
+abbrev pub is_word : List ℕ → Bool
+is_word bytes = length bytes == 5 && slice_index bytes 0 == 81 && slice_index bytes 1 == 78 && slice_index bytes 2 == 13
+
+-- what a node takes of its own host alone
+abbrev pub is_of_host : List ℕ → Bool
+is_of_host bytes = is_vote bytes || is_request bytes || is_word bytes
+
 -- a sealed packet names another sender than that rank
 abbrev pub names_other : List ℕ → ℕ → Bool
 names_other bytes sender = nat_lt 4 (length bytes) && not (slice_index bytes 4 == sender)
@@ -47,9 +55,9 @@ receiver_after_taking None tick bytes = None
 receiver_after_taking (Some receiver) tick bytes =
     Some (receiver_after receiver tick (opened_by receiver.keys receiver.texts bytes))
 
--- a datagram of that sender that is not its own: a vote, a request of this host, or sealed by another
+-- a datagram of that sender that is not its own: one of this host alone, or sealed by another
 abbrev pub is_foreign : Option Receiver → ℕ → List ℕ → Bool
-is_foreign None sender bytes = is_vote bytes || is_request bytes
+is_foreign None sender bytes = is_of_host bytes
 is_foreign (Some receiver) sender bytes = names_other bytes sender
 
 -- the receiver of seals does not take it, for that reason

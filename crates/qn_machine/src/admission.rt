@@ -1,7 +1,7 @@
 //! Which of the datagrams that come are handed to the node.
 ghost use Rattle.std.specs.Prelude.{◌≡◌};
 ghost use Rattle.std.specs.Net.Socket.{socket_ip, socket_port};
-ghost use Rattle.qn_machine.specs.Admission.{IsOfAnother, IsOfSender, IsOpened, IsRefused, is_request, is_vote, names_other, receiver_after_taking};
+ghost use Rattle.qn_machine.specs.Admission.{IsOfAnother, IsOfSender, IsOpened, IsRefused, is_of_host, is_request, is_vote, is_word, names_other, receiver_after_taking};
 
 use crate::leave_file::LEAVE;
 use crate::peers::Peers;
@@ -11,13 +11,17 @@ use std::net::{IpAddr, Ipv4Addr, SocketAddr};
 /// The kind of a packet of the quorum device of the node's own host.
 const VOTE: u8 = 5;
 
+/// The kind of what a node's own host says of it.
+const WORD: u8 = 13;
+
 /// Where in a sealed packet its sender stands.
 const SENDER: usize = 4;
 
 /// Why a datagram is not handed to the node.
 #[derive(Clone, Copy, PartialEq, Eq)]
 pub enum Reason {
-    /// It is of an address or a port that no other node has, a vote or a request of another host, or a seal that names another sender.
+    /// It is of an address or a port that no other node has, what a node takes of its own host alone, or a seal that names another
+    /// sender.
     Elsewhere,
     /// Its seal says so.
     Sealed(Refused),
@@ -49,6 +53,7 @@ impl Admission {
         ensures no_vote { OnOk result (self.old.receiver ≡ None → is_vote bytes.now ≡ false) }
         ensures no_request { OnOk result
             (self.old.receiver ≡ None → is_request bytes.now ≡ false) }
+        ensures no_word { OnOk result (self.old.receiver ≡ None → is_word bytes.now ≡ false) }
         ensures moved { OnOk result
             (self.new.receiver ≡ receiver_after_taking self.old.receiver tick bytes.now) }
         ensures reason { IfErr result (λ why.
@@ -60,7 +65,7 @@ impl Admission {
             return Err(Reason::Elsewhere);
         };
         match &mut self.receiver {
-            None if is_vote(bytes) || is_request(bytes) => Err(Reason::Elsewhere),
+            None if is_of_host(bytes) => Err(Reason::Elsewhere),
             None => Ok(bytes),
             Some(_) if names_other(bytes, sender) => Err(Reason::Elsewhere),
             Some(receiver) => receiver.take(tick, bytes).map_err(Reason::Sealed),
@@ -85,6 +90,20 @@ fn is_request(bytes: &[u8]) -> bool
     ensures { result ≡ is_request bytes.now }
 {
     matches!(bytes, [b'Q', b'N', LEAVE, _])
+}
+
+/// Whether a datagram is as what a host says of its node: of a kind that no packet of a network has.
+fn is_word(bytes: &[u8]) -> bool
+    ensures { result ≡ is_word bytes.now }
+{
+    matches!(bytes, [b'Q', b'N', WORD, _, _])
+}
+
+/// Whether a datagram is as what a node takes of its own host alone: a vote, a request that it is to leave, or what that says of it.
+fn is_of_host(bytes: &[u8]) -> bool
+    ensures { result ≡ is_of_host bytes.now }
+{
+    is_vote(bytes) || is_request(bytes) || is_word(bytes)
 }
 
 /// Whether a datagram is as a vote is: of its kind and of its length.
