@@ -28,6 +28,8 @@ ROWS = {
     "bench/gate": "- - help - - - - -",
     "completions/make": "- 2 help 2 0 2 2 2",
     "contrib/quorumd-acceptance": "2 2 help 2 2 text text 2",
+    "contrib/quorumd-collect": "- 2 help 2 2 2 2 2",
+    "contrib/quorumd-page": "2 2 help 0 2 text text 2",
     "contrib/quorumd-agent": "2 2 2 2 2 2 2 2",
     "contrib/hand-over": "2 2 2 2 2 2 2 2",
     "contrib/quorumd-resource": "2 2 help 2 2 2 2 2",
