@@ -70,10 +70,11 @@ def day_and_time(time):
 
 
 def headline(cluster):
-    """The verdict, and its reason behind it."""
-    if len(cluster.holders()) > 1 and cluster.state == "no owner":
-        return "TWO HOLDERS", cluster.said.removeprefix("TWO HOLDERS: ")
-    return cluster.state, cluster.said
+    """The verdict, and its reason where that says more than who holds."""
+    if cluster.said.startswith("TWO HOLDERS: "):
+        return "TWO HOLDERS", ""
+    is_plain = cluster.state == "healthy" and re.fullmatch(r"(node )?\S+ holds", cluster.said)
+    return cluster.state, "" if is_plain else cluster.said
 
 
 def owner_line(cluster):
@@ -83,7 +84,7 @@ def owner_line(cluster):
         return "Nobody holds the resource." if cluster.state == "no owner" else "Who holds the resource is not known here."
     names = " and ".join("<strong>%s</strong>" % escape(node.title()) for node in holders)
     if len(holders) > 1:
-        return "%s both hold, by their own word." % names
+        return "%s hold, by their own word." % names if cluster.state == "no owner" else "%s: the one hands over to the other." % names
     since = " for %s" % spell(holders[0].held_ms) if holders[0].held_ms is not None else ""
     return "%s holds the resource%s." % (names, since)
 
@@ -121,7 +122,7 @@ def last_word(node):
 
 def node_row(cluster, node):
     """A node: its name, how it is, its votes, its last word, and what else is known."""
-    names = ["owner"] * bool(node.holds) + ["clash"] * (bool(node.holds) and len(cluster.holders()) > 1)
+    names = ["owner"] * bool(node.holds) + ["clash"] * (bool(node.holds) and cluster.state == "no owner")
     tag = '<span class="tag">HOLDS</span>' if node.holds else ""
     is_wrong = node.phase.startswith(("ended", "silent", "not heard", "dying"))
     quorate = "" if node.quorate is None else "quorate" if node.quorate else "not quorate"
@@ -183,7 +184,7 @@ def page_of(host, now, every, cluster, events, looks):
 <style>
 %s</style></head><body>
 <p id="old" hidden></p>
-<header class="%s"><i aria-hidden="true">%s</i><div><h1>%s</h1><p>%s</p><p class="dim">%s</p></div></header>
+<header class="%s"><i aria-hidden="true">%s</i><div><h1>%s</h1><p>%s</p>%s</div></header>
 <p class="dim">By quorumctl status on %s, %s UTC. Times are UTC.</p>
 %s%s
 %s
@@ -191,6 +192,6 @@ def page_of(host, now, every, cluster, events, looks):
 %s
 <script>%s</script>
 </body></html>
-""" % (escape(state), escape(host), allowed, every, STYLE, cluster.state.replace(" ", "-"), ALARMS[cluster.state], escape(state), owner_line(cluster), escape(said),
+""" % (escape(state), escape(host), allowed, every, STYLE, cluster.state.replace(" ", "-"), ALARMS[cluster.state], escape(state), owner_line(cluster), '<p class="dim">%s</p>' % escape(said) if said else "",
        escape(host), day_and_time(now), faults_list(cluster.faults), nodes_table(cluster), hour_picture(cluster, events, looks, now, every),
        fences_list(cluster, events), events_list(cluster, events), script)

@@ -101,7 +101,7 @@ def verdicts():
     demand([("HOLDS" in row) for row in found.rows[1:]] == [True, False, False] and "quorate 3/2" in found.rows[2], found.rows)
     found = paged([*three()[:1], holder(2), node(3)])
     demand(found.texts["h1"] == "TWO HOLDERS" and [("HOLDS" in row) for row in found.rows[1:]] == [True, True, False], "two hold: %r" % found.rows)
-    demand("both hold" in found.texts["p"], found.texts["p"])
+    demand("hold, by their own word." in found.texts["p"], found.texts["p"])
     found = paged([node(2, why="unfenced:1:4744", view={"id": 2, "members": [2, 3]}, votes=2), node(3, why="not-chosen:2", view={"id": 2, "members": [2, 3]}, votes=2)])
     demand(found.texts["h1"] == "no owner" and "Nobody holds" in found.texts["p"], "nobody holds: %r" % found.texts)
     demand("waits for the reset of node 1: 4.7 s left" in found.rows[2] and "leaves it to node 2" in found.rows[3], found.rows)
@@ -139,6 +139,9 @@ def told():
     text = page.page_of("host", 1000000, 10, found, [], [])
     demand("db1</strong> holds the resource for 81 s" in text or "db1</strong> holds the resource for 1 min" in text, "for how long it holds")
     demand("its resources: failed" in text and "340 of its packets were refused" in text, "what else was told")
+    hands_over = json.dumps({"nodes": [holder(1, tick=900000, age=200, stale=False), holder(2, tick=900000, age=200, stale=False)], "said": "1 hands over to 2", "state": "degraded"})
+    text = page.page_of("host", 1000000, 10, clusters.cluster_of(hands_over), [], [])
+    demand("the one hands over to the other" in text and "<h1>degraded</h1>" in text and 'class="owner clash"' not in text, "a hand-over is no alarm")
     for broken in ("", "[]", "{}", '{"nodes": 3, "said": "", "state": "healthy"}', '{"nodes": [{"id": 1}], "said": "", "state": "healthy"}'):
         try:
             clusters.cluster_of(broken)
