@@ -3,7 +3,7 @@ over an outside, as `node-logged` writes them, and how its run ends. The rows of
 from collections import namedtuple
 
 import nodebytes
-from members import PLAIN, Said
+from members import PLAIN, Member, Said
 from naming import SILENT, NamingMember, flags_of, standing_of
 from nodebytes import ALL_MASK, FAILED, Announce, Ask, Hello, Leave, PlainHello, Slot, Tell, View, Vote, Word, mask_of
 from nodecore import Core, Entry
@@ -14,6 +14,7 @@ Words = namedtuple("Words", "ident turns leave is_clean_start")
 # How a run ended: the line of the node, and its exit status.
 End = namedtuple("End", "line status")
 
+BARRED, UNFIT, PULL = 1, 2, 4  # the flags of a word of this host
 PULL_LOOPS = 60  # for so many loops a pull waits for a start
 HALTS = {"reset": 2, "off": 3, "crashdump": 5}  # the codes of halts; that of a boot is 10 more than its cause
 
@@ -30,7 +31,7 @@ class Run:
         self.stop_waits, self.disk_waits = None, None  # an answer of a stop, and an entry that answers the disk, which the next turns take
         self.rests = False  # whether the turn before took an answer of the disk that had failed
         self.asked_to_leave = False
-        self.standing, self.pulls_since = SILENT, None  # what this host says of its node, and the tick of the word that it pulls
+        self.word, self.pulls_since = Word(0, 0), None  # what this host says of its node; the tick since which it pulls, while it does
         self.received = None
         self.closed = False
 
@@ -47,6 +48,7 @@ class Run:
         tick = self.outside.now()
         if tick < self.core.tick:
             return End("fault ClockBack %d %d" % (self.core.tick, tick), 12)
+        self.end_pull(tick)
         if entry is None:
             entry = self.looked(tick)
         self.rests = entry.kind in ("slot", "check", "mail", "written", "closed") and entry.given in (False, FAILED) and self.core.is_live()
@@ -75,6 +77,7 @@ class Run:
         if self.core.phase == "up" and (self.asked_to_leave or self.words.leave is not None and self.words.leave <= turn):
             return Entry("leave")
         self.received = None if self.is_late() else nodebytes.packet_of(self.outside.receive())
+        self.take_host(self.received)
         return self.entry_of(self.received)
 
     def is_late(self):
@@ -91,10 +94,6 @@ class Run:
 
     def looked(self, tick):
         """The view maker hears what was received, and looks."""
-        if isinstance(self.received, Leave):
-            self.asked_to_leave = True
-        elif isinstance(self.received, Word):
-            self.take_word(tick, self.received)
         if self.member is None:
             return Entry("tick")
         self.last_look = tick
@@ -107,24 +106,35 @@ class Run:
             self.member.on_plain_hello(tick, packet.sender)
         elif isinstance(packet, Hello):
             hears = PLAIN.hears if mask_of(packet.hears) == ALL_MASK else packet.hears
-            said = Said(hears, packet.follows, packet.able)
-            self.member.on_hello(tick, packet.sender, said, standing_of(packet.flags, packet.weight))
+            self.hear_hello(tick, packet, Said(hears, packet.follows, packet.able))
         elif isinstance(packet, Announce):
             self.member.on_announce(packet.sender, packet.view)
 
+    def hear_hello(self, tick, packet, said):
+        self.member.on_hello(tick, packet.sender, said, standing_of(packet.flags, packet.weight))
+
     # ---- what the node says of itself
 
-    def take_word(self, tick, word):
-        """What this host says of its node from now on."""
-        pulls = word.flags & 4 == 4
-        self.standing = SILENT._replace(barred=word.flags & 1 == 1, unfit=word.flags & 2 == 2, pull=pulls, weight=word.weight)
-        self.pulls_since = tick if pulls else None
+    def take_host(self, packet):
+        """What this host asks its node for, and what it says of it from now on: of words in a row that pull the first one counts."""
+        if isinstance(packet, Leave):
+            self.asked_to_leave = True
+        elif isinstance(packet, Word):
+            if not packet.flags & PULL:
+                self.pulls_since = None
+            elif not self.word.flags & PULL:
+                self.pulls_since = self.core.tick
+            self.word = packet
+
+    def end_pull(self, tick):
+        """A pull ends where the node holds, and some loops after its word."""
+        if self.pulls_since is not None and (self.core.holds or tick >= self.pulls_since + PULL_LOOPS * self.core.times.loop):
+            self.pulls_since = None
 
     def look(self, tick):
-        holds = self.core.holds
-        if self.standing.pull and (holds or tick >= self.pulls_since + PULL_LOOPS * self.core.times.loop):
-            self.standing = self.standing._replace(pull=False)
-        return self.member.look(tick, self.standing, holds)
+        flags = self.word.flags
+        words = SILENT._replace(barred=flags & BARRED > 0, unfit=flags & UNFIT > 0, pull=self.pulls_since is not None, weight=self.word.weight)
+        return self.member.look(tick, words, self.core.holds)
 
     # ---- what the node does
 
@@ -198,11 +208,12 @@ class Run:
             if view is not None:
                 self.tell_others(Announce(self.me, View(*view)))
 
+    MEMBER = NamingMember
+
     def new_member(self):
-        votes = dict(enumerate(self.settings.votes))
         of_device = self.settings.device[0] if self.settings.device else 0
         enough = 0 if self.settings.two_node else max(1, self.settings.expected // 2 + 1 - of_device)
-        return NamingMember(self.me, votes, enough, self.core.times.loop)
+        return self.MEMBER(self.me, dict(enumerate(self.settings.votes)), enough, self.core.times.loop)
 
     def say_hello(self):
         said, standing = self.member.to_say()
@@ -212,3 +223,24 @@ class Run:
         for rank in range(len(self.settings.ids)):
             if rank != self.me:
                 self.outside.send(rank, nodebytes.packet_bytes(packet))
+
+
+class RunBefore(Run):
+    """A node of the release before: it names nobody, says each Hello in both forms, and knows no named view."""
+
+    MEMBER = Member
+
+    def look(self, tick):
+        return self.member.look(tick)
+
+    def hear(self, tick, packet):
+        if not (isinstance(packet, Announce) and nodebytes.name_of(packet.view.number)):
+            super().hear(tick, packet)
+
+    def hear_hello(self, tick, packet, said):
+        self.member.on_hello(tick, packet.sender, said)
+
+    def say_hello(self):
+        said = self.member.to_say()
+        self.tell_others(PlainHello(self.me))
+        self.tell_others(Hello(self.me, said.hears, said.follows, said.able, 0, 0))
