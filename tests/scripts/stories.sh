@@ -115,12 +115,13 @@ says '^  node 2 is up, and holds the resource$'
 three 'cut-in 2' 'run 8000' 'heal' 'run 8000'
 never 'reset to node 3$'
 never 'reset to node 1$'
-# one cable: the side of the least node has the vote of the third one, so the other node is reset, once, and it alone; whoever holds
+# one cable: the side of the holder has the vote of the third one, so the other node is reset, once, and it alone
 three 'cut-link 1 2' 'run 20000' 'up 2' 'run 20000'
 same "$(holders trace)" 'holders=- holders=1'
 same "$(grep -oE 'node [0-9] writes a reset to node [0-9]$' account | sort | uniq -c | xargs)" '1 node 1 writes a reset to node 2'
+# the holder and a node of lesser id: the service stays where it is
 three 'leave 1' 'run 3000' 'up 1' 'run 3000' 'cut-link 2 1' 'run 20000'
-same "$(holders trace)" 'holders=- holders=1 holders=- holders=2 holders=- holders=1'
+same "$(holders trace)" 'holders=- holders=1 holders=- holders=2'
 # one direction: node 2 does not hear node 1, or node 1 not node 2
 for cut in '2 1' '1 2'; do
     three "cut-link-in $cut" 'run 20000'
