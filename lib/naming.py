@@ -28,7 +28,7 @@ class NamingMember(Member):
     def __init__(self, ident, votes, enough, loop):
         super().__init__(ident, votes, enough, loop)
         self.standings = {}  # of each other node: what it says of itself, where its last Hello does
-        self.stands = SILENT  # what the node said of itself at the last look
+        self.stands = SILENT  # what the node says of itself: after a look with what that found
         self.known = self.visible_now = (ident,)  # who was visible at the last look, and of whom of them it is known
         self.is_mixed = True  # whether the last look saw a node of which nothing is known
         self.led_since, self.came = None, set()  # the first of the looks in a row that found this leader, and who announced a view since
@@ -52,9 +52,13 @@ class NamingMember(Member):
 
     # ---- a look
 
-    def look(self, tick, words=SILENT, holds=False):
-        """The view that the node is handed at this tick, by its own words and whether it holds; None where it is handed none."""
+    def stand(self, words, holds):
+        """What the node says of itself from now on, by its own words and whether it holds."""
         self.stands = words._replace(holds=holds, keeps=False)
+
+    def look(self, tick, words=SILENT, holds=False):
+        """The view that the node is handed at this tick, by the same; None where it is handed none."""
+        self.stand(words, holds)
         view = super().look(tick)
         if view is not None:
             self.installed = tick

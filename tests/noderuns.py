@@ -131,10 +131,13 @@ class Run:
         if self.pulls_since is not None and (self.core.holds or tick >= self.pulls_since + PULL_LOOPS * self.core.times.loop):
             self.pulls_since = None
 
+    def stands(self):
+        """What the node says of itself: the words of its host, and whether it holds."""
+        flags, pulls = self.word.flags, self.pulls_since is not None
+        return SILENT._replace(barred=flags & BARRED > 0, unfit=flags & UNFIT > 0, pull=pulls, weight=self.word.weight), self.core.holds
+
     def look(self, tick):
-        flags = self.word.flags
-        words = SILENT._replace(barred=flags & BARRED > 0, unfit=flags & UNFIT > 0, pull=self.pulls_since is not None, weight=self.word.weight)
-        return self.member.look(tick, words, self.core.holds)
+        return self.member.look(tick, *self.stands())
 
     # ---- what the node does
 
@@ -201,7 +204,7 @@ class Run:
             self.member = None
             return
         if self.member is None:
-            self.member, self.last_look = self.new_member(), tick
+            self.member, self.last_look = self.begins(), tick
         if self.member.is_hello_due(tick):
             self.say_hello()
             view = self.member.to_announce()
@@ -214,6 +217,12 @@ class Run:
         of_device = self.settings.device[0] if self.settings.device else 0
         enough = 0 if self.settings.two_node else max(1, self.settings.expected // 2 + 1 - of_device)
         return self.MEMBER(self.me, dict(enumerate(self.settings.votes)), enough, self.core.times.loop)
+
+    def begins(self):
+        """The view maker of a node that comes up."""
+        member = self.new_member()
+        member.stand(*self.stands())
+        return member
 
     def say_hello(self):
         said, standing = self.member.to_say()
@@ -229,6 +238,9 @@ class RunBefore(Run):
     """A node of the release before: it names nobody, says each Hello in both forms, and knows no named view."""
 
     MEMBER = Member
+
+    def begins(self):
+        return self.new_member()
 
     def look(self, tick):
         return self.member.look(tick)
