@@ -1,4 +1,4 @@
-use Rattle.std.proofs.Common.{◌≤◌, refl, ap, sym, ◌∙◌, arith, option_map}
+use Rattle.std.proofs.Common.{◌≡◌, ◌≤◌, refl, ap, sym, ◌∙◌, arith, option_map}
 use Rattle.qn_polls.specs.Poller.{poller_of}
 use Rattle.qn_live.specs.declared.place.Choice.{Choice}
 use Rattle.qn_live.specs.Choosing.{look_after, looked}
@@ -40,7 +40,7 @@ returns-clause-runs c = λ log stands.
     (ap (λ p. p >>= later (next_of run))
     (clocked_on run.settings run.me.0 c.args.choice (state_of run log) c.args.tick c.look-what.new.member c.look-what.result c.loop_after-self.result c.failed_answer-self.result c.look_after-self.result c.at-self.result (option_map poller_of c.hear_entry.new.poller) c.polls_after-self.result c.step.new.outs before
     (ap (λ (chosen : Choice). looked c.args.tick (own_by words (holds log)) chosen run.member) (sym c.answered_at-choice.ensures)
-    ∙ ap (λ (own : Own). looked c.args.tick own c.answered_at-choice.result run.member) (sym (c.own.ensures log stands))
+    ∙ ap (λ (own : Own). looked c.args.tick own c.answered_at-choice.result run.member) (sym (c.own-own.ensures log stands))
     ∙ c.look-what.ensures)
     c.loop_after-self.ensures c.failed_answer-self.ensures
     (c.look_after-self.ensures ∙ ap (λ (chosen : Choice). look_after c.args.tick chosen run.member run.last_look) c.answered_at-choice.ensures)

@@ -11,7 +11,7 @@ returns-in-Some-clause-runs c = λ log stands.
     let run = c.args.self.now in
     stands_too
     (ap (λ (found : Option Greeting). saying run log (option_map_or (λ first. to_send run.settings run.me.0 run.member first 0) found []))
-    (sym c.first_greeting-self.ensures ∙ c.in-Some.is))
+    (sym c.first_greeting.ensures ∙ c.in-Some.is))
     (c.greet.ensures.runs log stands)
 
 pub returns-in-None-clause-runs : goal.returns-in-None-clause-runs
@@ -19,6 +19,6 @@ returns-in-None-clause-runs c = λ log stands.
     let run = c.args.self.now in
     stands_too
     (ap (λ (found : Option Greeting). saying run log (option_map_or (λ first. to_send run.settings run.me.0 run.member first 0) found []))
-    (sym c.first_greeting-self.ensures ∙ c.in-None.is)
+    (sym c.first_greeting.ensures ∙ c.in-None.is)
     ∙ said_all run log)
     (c.finish.ensures.runs log stands)
