@@ -135,6 +135,8 @@ def told():
     first, second, third = found.nodes
     same((first.title(), first.holds, first.quorate, first.group, first.held_ms, first.silent_ms), ("db1", True, True, "failed", 81204, 300), "what node 1 told")
     same((third.holds, third.is_live, third.phase, third.refused), (None, False, "not heard", 340), "what was told ten seconds ago is of no use")
+    same([clusters.group_word(shown) for shown in ({}, {"group": None}, {"group": 0}, {"group": 9}, {"group": 10}, {"group": 11})],
+         ["", "unattended", "none", "maintenance", "unattended", ""], "the words of a group")
     same((second.is_own, second.holds, [node.ident for node in found.holders()]), (True, False, [1]), "the own node")
     text = page.page_of("host", 1000000, 10, found, [], [])
     demand("db1</strong> holds the resource for 81 s" in text or "db1</strong> holds the resource for 1 min" in text, "for how long it holds")
