@@ -2,6 +2,7 @@
 ghost use Rattle.qn_io.specs.Receives.{FitsPacket};
 
 use crate::arbiter::ArbiterNews;
+use crate::device::DeviceNews;
 use crate::ending::end_text;
 use crate::group_file::group_of_file;
 use crate::mail::{MailNews, MailState, Mailbox};
@@ -18,10 +19,11 @@ use qn_live::{Asked, Given, LiveEnd, NodeRun, Notices, Room, Standing};
 use qn_machine::{Lines, ReplacedFile};
 use qn_model::{HeaderSeen, MailSeen, Packet, Phase, Settings, What};
 use qn_notice::{Event, Observer};
+use qn_polls::get_reply;
 use qn_safety::{Lease, Poll};
 use qn_sector::{get_mail, mail_sector};
 use qn_told::{
-    ended, event_line, feeds_failed, mail_damaged, mail_failed, mail_told, packets_refused,
+    device_answered, device_silent, ended, event_line, feeds_failed, mail_damaged, mail_failed, mail_told, packets_refused,
     peer_lost, peer_seen,
 };
 use qn_wire::get_packet;
@@ -34,6 +36,9 @@ const IMAGE: u32 = 1024;
 
 /// The most bytes of a name.
 const MOST_NAME: usize = 63;
+
+/// The seat of an arbiter, one above those of the ranks.
+const ARBITER: Rank = Rank(32);
 
 /// How old a status becomes before it is written anew, in milliseconds.
 const AGE: u64 = 500;
@@ -52,6 +57,7 @@ pub struct Journal<'a, R: Files<File = File> + Clock + Eprint> {
     telling: Telling,
     observer: Observer,
     arbiter: ArbiterNews,
+    device: DeviceNews,
     /// How long the times of the header have a reset be waited for, in milliseconds; 0 before.
     msgwait: u64,
     mailbox: Mailbox,
@@ -90,6 +96,7 @@ impl<'a, R: Files<File = File> + Clock + Eprint> Journal<'a, R> {
             telling: Telling::new(),
             observer: Observer::new(),
             arbiter: ArbiterNews::new(),
+            device: DeviceNews::default(),
             msgwait: 0,
             mailbox: Mailbox::new(),
             peers: Peers::new(),
@@ -125,6 +132,7 @@ impl<'a, R: Files<File = File> + Clock + Eprint> Journal<'a, R> {
         }
         self.greet(tick, run);
         self.miss(tick, run);
+        self.tell_device(tick, run);
     }
 
     /// Has the others told how this node is, at once where it begins or ends to hold, and once a loop; then it is looked how its group is.
@@ -169,6 +177,19 @@ impl<'a, R: Files<File = File> + Clock + Eprint> Journal<'a, R> {
         }
     }
 
+    /// Tells of the arbiter that the node polls: its answer, and that it is silent.
+    fn tell_device(&mut self, tick: u64, run: &NodeRun) {
+        let view = run.standing().view.map_or(0, |(_, view)| view.id);
+        if let Some(agrees) = self.device.take(run.entry(), tick, view) {
+            let line = device_answered(self.now(), agrees, view);
+            self.say(&line);
+        }
+        if let Some(age) = self.device.miss(tick, timeout_of(run)) {
+            let line = device_silent(self.now(), age);
+            self.say(&line);
+        }
+    }
+
     /// Tells an event.
     fn tell(&mut self, event: &Event, run: &NodeRun) {
         let mut line = event_line(self.now(), &run.settings().nodes, self.msgwait, event);
@@ -185,6 +206,7 @@ impl<'a, R: Files<File = File> + Clock + Eprint> Journal<'a, R> {
             Some(
                 Packet::Ask(_) | Packet::Tell(_) | Packet::Announce { .. } | Packet::Vote { .. },
             ) => {}
+            None if get_reply(bytes).is_some() => {}
             None => self.refused.count(),
         }
     }
@@ -271,6 +293,8 @@ impl<'a, R: Files<File = File> + Clock + Eprint> Journal<'a, R> {
             peers: &self.peers,
             voices: self.lines.voices(),
             telling: &self.telling,
+            device: &self.device,
+            timeout: timeout_of(run),
             counts: Counts {
                 dropped: self.lines.dropped(),
                 refused: self.refused.all(),
@@ -331,6 +355,11 @@ fn subject_of(event: &Event, me: Rank) -> Option<Rank> {
         | Event::HoldLost
         | Event::Halt { .. } => None,
     }
+}
+
+/// The timeout of the quorum device in milliseconds; 0 where there is none.
+fn timeout_of(run: &NodeRun) -> u64 {
+    run.settings().device.map_or(0, |device| device.timeout)
 }
 
 /// Where a node stands, as a status says it: one that has ended counts no votes, as a node that is off.
@@ -395,11 +424,13 @@ impl<'a, R: Files<File = File> + Clock + Eprint> Notices for Journal<'a, R> {
             Asked::Feed => if !given.ok {
                 self.late.count();
             },
+            Asked::Send { to } => if to == ARBITER && given.ok {
+                self.device.poll(run.tick());
+            },
             Asked::Now
             | Asked::Write { .. }
             | Asked::Start
             | Asked::Stop
-            | Asked::Send { .. }
             | Asked::Disarm
             | Asked::Halt { .. } => {}
         }

@@ -6,6 +6,7 @@
 #![tactic(auto)]
 
 mod arbiter;
+mod device;
 mod ending;
 mod group_file;
 mod journal;

@@ -1,4 +1,5 @@
 //! The status of a running node as one object of JSON, with its keys in alphabetical order.
+use crate::device::DeviceNews;
 use crate::mail::{MailState, Mailbox};
 use crate::node_names::NodeNames;
 use crate::peers::Peers;
@@ -12,6 +13,9 @@ use qn_machine::Voices;
 use qn_model::{Nodes, Phase};
 use qn_names::{phase_name, write_why};
 use qn_shown::{Group, Heard};
+
+/// The seat of the arbiter, one above those of the ranks.
+const ARBITER: usize = 32;
 
 /// What a status says of its node besides where it stands.
 #[derive(Clone, Copy)]
@@ -37,6 +41,9 @@ pub(crate) struct Shown<'a> {
     pub(crate) peers: &'a Peers,
     pub(crate) voices: &'a Voices,
     pub(crate) telling: &'a Telling,
+    pub(crate) device: &'a DeviceNews,
+    /// The timeout of the quorum device in milliseconds; 0 where there is none.
+    pub(crate) timeout: u64,
     pub(crate) counts: Counts,
     /// How the run ended, where it has.
     pub(crate) end: Option<&'a [u8]>,
@@ -45,7 +52,7 @@ pub(crate) struct Shown<'a> {
 /// The status, with the end of its line.
 pub(crate) fn status_text(shown: &Shown<'_>) -> Text {
     let mut text = Text::new();
-    add_dropped_to_loop(&mut text, shown);
+    add_arbiter_to_loop(&mut text, shown);
     add_mail(&mut text, shown);
     add_peers(&mut text, shown);
     add_phase_to_released(&mut text, shown);
@@ -53,8 +60,12 @@ pub(crate) fn status_text(shown: &Shown<'_>) -> Text {
     text
 }
 
-fn add_dropped_to_loop(text: &mut Text, shown: &Shown<'_>) {
-    text.add(b"{\"dropped\":");
+fn add_arbiter_to_loop(text: &mut Text, shown: &Shown<'_>) {
+    text.add(b"{");
+    let voices = shown.voices;
+    let refused = voices.refused(ARBITER);
+    shown.device.add_to(text, shown.at.tick, shown.timeout, voices.arbiter(), refused);
+    text.add(b"\"dropped\":");
     text.number(shown.counts.dropped);
     text.add(b",\"end\":");
     match shown.end {

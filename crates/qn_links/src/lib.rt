@@ -11,6 +11,7 @@
 #![tactic(auto)]
 
 mod arbiter;
+mod device;
 mod fault;
 mod laws;
 mod links;
@@ -19,9 +20,10 @@ mod names;
 mod sections;
 
 pub use arbiter::{ArbiterFault, ArbiterPlace, arbiter_of};
+pub use device::{DeviceNet, device_of};
 pub use fault::LinksFault;
 pub use laws::law_one_meaning;
 pub use links::{Links, links_of};
 pub use meaning::{MEANING, Meaning, meaning_of};
 pub use names::{MOST_NAME, NameFault, name_of};
-pub use sections::{DeviceNet, NodeSection, device_of, sections_of};
+pub use sections::{NodeSection, sections_of};

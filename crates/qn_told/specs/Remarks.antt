@@ -20,6 +20,15 @@ peer_seen at id = line at Information (codes "peer-seen") (number (codes "id") i
 abbrev pub peer_lost : Moment → NodeId → ℕ → EventText
 peer_lost at id silent = line at Warning (codes "peer-lost") (number (codes "id") id.0 ∷ number (codes "silent") silent ∷ [])
 
+-- the arbiter answered, in the view of that number
+abbrev pub device_answered : Moment → Bool → ℕ → EventText
+device_answered at agrees view =
+    line at Notice (codes "device") (truth (codes "answer") agrees ∷ number (codes "view") view ∷ [])
+
+-- the arbiter answered nothing for so many milliseconds
+abbrev pub device_silent : Moment → ℕ → EventText
+device_silent at age = line at Warning (codes "device-silent") (number (codes "age") age ∷ [])
+
 -- who wrote a message: a node, or an operator
 abbrev pub sender_words : Option Sender → List Word
 sender_words None = text (codes "by") (codes "operator") ∷ []

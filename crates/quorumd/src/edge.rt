@@ -1,13 +1,13 @@
 //! Reads the files that the words before the command name: the addresses and the digests of a settings text, and keys. Of the first that
 //! is wrong a line on standard error says what is; nothing was opened then but these files.
 use crate::PROGRAM;
-use crate::before::{Before, MOST_KEYS};
+use crate::before::{Before, MOST_KEYS, is_running};
 use crate::same_text::Text;
 use qn_commands::Fault;
 use qn_conf::{MOST_TEXT_BYTES, Tree, read_tree};
 use qn_links::{
-    ArbiterPlace, Links, Meaning, NodeSection, arbiter_of, device_of, links_of, meaning_of,
-    name_of, sections_of,
+    ArbiterFault, ArbiterPlace, Links, Meaning, NodeSection, arbiter_of, device_of, links_of,
+    meaning_of, name_of, sections_of,
 };
 use qn_machine::{ArbiterAt, Edge, Guard, Overwrites};
 use qn_model::Settings;
@@ -70,7 +70,7 @@ pub fn edge_of<'words, R: Files<File = File> + AllocGlobal + Eprint>(
     Ok((edge, text))
 }
 
-/// Takes what a settings text says: where the nodes are, before an arbiter where that is, and what stands for the text in a tag; and gives how the
+/// Takes what a settings text says: where the nodes and their arbiter are, and what stands for the text in a tag; and gives how the
 /// nodes are called.
 fn take_text<R: AllocGlobal + Eprint>(
     rt: &R,
@@ -84,14 +84,18 @@ fn take_text<R: AllocGlobal + Eprint>(
     let settings = read_settings(rt, path, &tree)?;
     let sections = sections_of(rt.alloc(), &tree).map_err(|_| NO_MEMORY)?;
     let links = read_links(rt, path, sections.as_slice(), &settings)?;
-    let net = device_of(rt.alloc(), &tree).map_err(|_| NO_MEMORY)?;
-    let arbiter = arbiter_of(net, &links);
+    let arbiter = arbiter_of(device_of(&tree), &links);
     edge.texts = texts_of(before, bytes, &settings, &links, arbiter.ok());
-    if command == ARBITER {
-        let place = arbiter.map_err(|fault| refuse(rt, path, fault))?;
-        let ArbiterPlace { address, port } = place;
-        edge.arbiter = Some(ArbiterAt { address, port });
-    }
+    edge.arbiter = match arbiter {
+        Ok(ArbiterPlace { address, port }) => Some(ArbiterAt { address, port }),
+        Err(fault) if command == ARBITER => return Err(refuse(rt, path, fault)),
+        Err(fault) => {
+            if is_running(command) && settings.device.is_some() {
+                say_unpolled(rt, path, fault);
+            }
+            None
+        }
+    };
     edge.addresses = Some(links);
     read_names(rt, path, sections.as_slice(), &settings)
 }
@@ -125,6 +129,18 @@ fn texts_of(
 fn refuse<E: Eprint, W: Display + Drop>(errors: &E, path: &str, why: W) -> u8 {
     let _ = eprintln!(errors; "{PROGRAM}: {path}: {why}");
     USAGE
+}
+
+/// Says why a node polls no arbiter though its text has a host of one. That it cannot be said is no fault.
+fn say_unpolled<E: Eprint>(errors: &E, path: &str, fault: ArbiterFault<'_>) {
+    match fault {
+        ArbiterFault::NoHost => {}
+        ArbiterFault::NotAddress { .. }
+        | ArbiterFault::OtherFamily { .. }
+        | ArbiterFault::NotPort { .. } => {
+            let _ = eprintln!(errors; "{PROGRAM}: {path}: {fault}: no arbiter is polled");
+        }
+    }
 }
 
 /// The bytes of a file, of a longer one so many.
