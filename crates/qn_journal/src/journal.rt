@@ -23,8 +23,8 @@ use qn_polls::get_reply;
 use qn_safety::{Lease, Poll};
 use qn_sector::{get_mail, mail_sector};
 use qn_told::{
-    device_answered, device_silent, ended, event_line, feeds_failed, mail_damaged, mail_failed, mail_told, packets_refused,
-    peer_lost, peer_seen,
+    device_answered, device_silent, ended, event_line, feeds_failed, mail_damaged, mail_failed,
+    mail_told, packets_refused, peer_lost, peer_seen,
 };
 use qn_wire::get_packet;
 use std::fs::File;

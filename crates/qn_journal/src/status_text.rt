@@ -64,7 +64,13 @@ fn add_arbiter_to_loop(text: &mut Text, shown: &Shown<'_>) {
     text.add(b"{");
     let voices = shown.voices;
     let refused = voices.refused(ARBITER);
-    shown.device.add_to(text, shown.at.tick, shown.timeout, voices.arbiter(), refused);
+    shown.device.add_to(
+        text,
+        shown.at.tick,
+        shown.timeout,
+        voices.arbiter(),
+        refused,
+    );
     text.add(b"\"dropped\":");
     text.number(shown.counts.dropped);
     text.add(b",\"end\":");

@@ -70,11 +70,8 @@ impl Section {
             Section::Outside if name == b"quorum".as_slice() => Section::Quorum,
             Section::Quorum if name == b"device".as_slice() => Section::Device,
             Section::Device if name == b"net".as_slice() => Section::Net,
-            Section::Outside
-            | Section::Quorum
-            | Section::Device
-            | Section::Net
-            | Section::Other => Section::Other,
+            Section::Outside | Section::Quorum | Section::Device | Section::Net | Section::Other =>
+                Section::Other,
         }
     }
 }
