@@ -82,6 +82,14 @@ _quorumd_takes() {
         operands=(file none)
         options=(--check//--check --anew//--anew --yes/none/--yes)
         ;;
+    quorumd-page)
+        operands=(file)
+        options=(--every/none/--every --status/file/ --journal/file/)
+        ;;
+    quorumd-collect)
+        operands=(file)
+        options=(--since/none/--since --until/none/--until)
+        ;;
     quorumd-resource)
         commands=(run status check move maintenance)
         ;;
@@ -214,4 +222,4 @@ _quorumd() {
     fi
 }
 
-complete -F _quorumd quorumd quorumctl quorumd-setup quorumd-acceptance quorumd-resource story timeline scenario storm campaign soak-nodes
+complete -F _quorumd quorumd quorumctl quorumd-setup quorumd-acceptance quorumd-page quorumd-collect quorumd-resource story timeline scenario storm campaign soak-nodes

@@ -60,6 +60,12 @@ function __quorumd_takes
         case quorumd-acceptance
             set -g __quorumd_operands file none
             set -g __quorumd_options --check//--check/ --anew//--anew/ '--yes/none/--yes/TEST[,TEST..]'
+        case quorumd-page
+            set -g __quorumd_operands file
+            set -g __quorumd_options --every/none/--every/SECONDS --status/file//FILE --journal/file//FILE
+        case quorumd-collect
+            set -g __quorumd_operands file
+            set -g __quorumd_options --since/none/--since/TIME --until/none/--until/TIME
         case quorumd-resource
             set -g __quorumd_commands 'run	looks after the resources of this host, for systemd' 'status	how the resources stand' 'check	whether the file of the resources is well-formed' 'move	moves the resources to another node' 'maintenance	on: nothing is started, and no failure counts'
         case 'quorumd-resource maintenance'
@@ -155,6 +161,6 @@ function __quorumd_offers
     end
 end
 
-for program in quorumd quorumctl quorumd-setup quorumd-acceptance quorumd-resource story timeline scenario storm campaign soak-nodes
+for program in quorumd quorumctl quorumd-setup quorumd-acceptance quorumd-page quorumd-collect quorumd-resource story timeline scenario storm campaign soak-nodes
     complete -c $program -f -a '(__quorumd_offers)'
 end

@@ -36,6 +36,14 @@ is_vote bytes = length bytes == 4 && slice_index bytes 0 == 81 && slice_index by
 abbrev pub is_request : List ℕ → Bool
 is_request bytes = length bytes == 4 && slice_index bytes 0 == 81 && slice_index bytes 1 == 78 && slice_index bytes 2 == 12
 
+-- what the node's own host says of it: `QN`, kind 13, and two bytes more
+abbrev pub is_word : List ℕ → Bool
+is_word bytes = length bytes == 5 && slice_index bytes 0 == 81 && slice_index bytes 1 == 78 && slice_index bytes 2 == 13
+
+-- what a node takes of its own host alone
+abbrev pub is_of_host : List ℕ → Bool
+is_of_host bytes = is_vote bytes || is_request bytes || is_word bytes
+
 -- a reply of the arbiter: `QN`, kind 7, and 26 bytes more
 abbrev pub is_reply : List ℕ → Bool
 is_reply bytes = length bytes == 29 && slice_index bytes 0 == 81 && slice_index bytes 1 == 78 && slice_index bytes 2 == 7
@@ -44,9 +52,9 @@ is_reply bytes = length bytes == 29 && slice_index bytes 0 == 81 && slice_index 
 abbrev pub names_other : List ℕ → ℕ → Bool
 names_other bytes sender = nat_lt 4 (length bytes) && not (slice_index bytes 4 == sender)
 
--- a datagram without a seal that is not that sender's: of a node a vote, a request of this host or a reply; of the arbiter whatever is no reply
+-- a datagram without a seal that is not that sender's: of a node what is of this host alone, or a reply; of the arbiter whatever is no reply
 abbrev pub is_strange : Sender → List ℕ → Bool
-is_strange (Rank rank) bytes = is_vote bytes || is_request bytes || is_reply bytes
+is_strange (Rank rank) bytes = is_of_host bytes || is_reply bytes
 is_strange Arbiter bytes = not (is_reply bytes)
 
 -- a datagram of that sender that is not its own: without a seal a strange one, or one that another has sealed

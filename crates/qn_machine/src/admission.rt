@@ -1,7 +1,7 @@
 //! Which of the datagrams that come are handed to the node.
 ghost use Rattle.std.specs.Prelude.{◌≡◌};
 ghost use Rattle.std.specs.Net.Socket.{socket_ip, socket_port};
-ghost use Rattle.qn_machine.specs.Admission.{IsOf, IsOpened, IsOwn, IsRefused, is_reply, is_request, is_strange, is_vote, names_other, receiver_after_taking, seat_of};
+ghost use Rattle.qn_machine.specs.Admission.{IsOf, IsOpened, IsOwn, IsRefused, is_of_host, is_reply, is_request, is_strange, is_vote, is_word, names_other, receiver_after_taking, seat_of};
 
 use crate::leave_file::LEAVE;
 use crate::peers::Peers;
@@ -13,6 +13,9 @@ pub(crate) const ARBITER: u8 = 32;
 
 /// The kind of a packet of the quorum device of the node's own host.
 const VOTE: u8 = 5;
+
+/// The kind of what a node's own host says of it.
+const WORD: u8 = 13;
 
 /// The kind of a packet of the arbiter, and how many bytes it has.
 const REPLY: u8 = 7;
@@ -119,13 +122,13 @@ pub(crate) fn is_vote_of_host(from: SocketAddr, bytes: &[u8]) -> bool {
     from.ip() == IpAddr::V4(Ipv4Addr::LOCALHOST) && is_vote(bytes)
 }
 
-/// Whether a datagram without a seal is none that this sender sends: of a node a vote, a request of this host or a reply, of the arbiter
+/// Whether a datagram without a seal is none that this sender sends: of a node what is of this host alone, or a reply, of the arbiter
 /// whatever is no reply.
 fn is_strange(sender: Sender, bytes: &[u8]) -> bool
     ensures { result ≡ is_strange sender bytes.now }
 {
     match sender {
-        Sender::Rank(_) => is_vote(bytes) || is_request(bytes) || is_reply(bytes),
+        Sender::Rank(_) => is_of_host(bytes) || is_reply(bytes),
         Sender::Arbiter => !is_reply(bytes),
     }
 }
@@ -142,6 +145,20 @@ fn is_request(bytes: &[u8]) -> bool
     ensures { result ≡ is_request bytes.now }
 {
     matches!(bytes, [b'Q', b'N', LEAVE, _])
+}
+
+/// Whether a datagram is as what a host says of its node: of a kind that no packet of a network has.
+fn is_word(bytes: &[u8]) -> bool
+    ensures { result ≡ is_word bytes.now }
+{
+    matches!(bytes, [b'Q', b'N', WORD, _, _])
+}
+
+/// Whether a datagram is as what a node takes of its own host alone: a vote, a request that it is to leave, or what that says of it.
+fn is_of_host(bytes: &[u8]) -> bool
+    ensures { result ≡ is_of_host bytes.now }
+{
+    is_vote(bytes) || is_request(bytes) || is_word(bytes)
 }
 
 /// Whether a datagram is as a vote is: of its kind and of its length.

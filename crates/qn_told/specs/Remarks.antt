@@ -1,4 +1,4 @@
--- What a line of the journal says of bytes, of the clock and of the watchdog (this project's profile, docs/LIVE.md "The journal").
+-- What a line of the journal says of bytes, of the clock and of the watchdog (this project's profile, LIVE.md "The journal").
 use Rattle.std.specs.Prelude.{ℕ, Bool, List, [], ◌∷◌, Option, None, Some, false, codes, if◌then◌else◌}
 use Rattle.qn_base.specs.declared.ids.NodeId.{NodeId}
 use Rattle.qn_event.specs.EventLines.{head_of}
