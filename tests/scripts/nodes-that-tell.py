@@ -48,20 +48,24 @@ class TellingCluster(Cluster):
         wait_for("by node %d it is %r" % (ident, wanted), lambda: self.first_line(ident) in wanted)
 
 
+def names(node, event):
+    """The names in the lines of an event."""
+    return {line["name"] for line in node.events(event)}
+
+
 def each_says_who_holds():
     cluster = TellingCluster("holds")
     nodes = {ident: cluster.started(ident) for ident in IDS}
     for ident in IDS:
         cluster.says(ident, (0, "quorumd healthy: db1 holds (no group)"))
-    seen = [event["name"] for event in nodes[1].events("peer-seen")]
-    same("names in the journal", sorted(seen), ["db2", "db3"])
-    same("its own name", [event["name"] for event in nodes[1].events("claimed")], ["db1"])
+    same("names in the journal", names(nodes[1], "peer-seen"), {"db2", "db3"})
+    same("its own name", names(nodes[1], "claimed"), {"db1"})
     shown = json.loads(cluster.file(1).read_text())
     same("names in the file", (shown["name"], [peer["name"] for peer in shown["peers"]]), ("db1", ["db2", "db3"]))
     nodes[1].kill()
     for ident in (2, 3):
         cluster.says(ident, (1, "quorumd degraded: db2 holds; db%d does not see db1" % ident))
-    same("names of who was fenced", [event["name"] for event in nodes[2].events("fence-written")], ["db1"])
+    same("names of who was fenced", names(nodes[2], "fence-written"), {"db1"})
 
 
 def another_key():
