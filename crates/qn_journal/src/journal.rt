@@ -9,7 +9,7 @@ use crate::mail::{MailNews, MailState, Mailbox};
 use crate::node_names::NodeNames;
 use crate::peers::Peers;
 use crate::seldom::Seldom;
-use crate::status_text::{Counts, Shown, status_text};
+use crate::status_text::{Counts, NAMES, Shown, status_text};
 use crate::telling::Telling;
 use qn_base::Rank;
 use qn_event::{EventLine, Moment};
@@ -184,7 +184,7 @@ impl<'a, R: Files<File = File> + Clock + Eprint> Journal<'a, R> {
 
     /// Tells of the arbiter that the node polls: its answer, and that it is silent.
     fn tell_device(&mut self, tick: u64, run: &NodeRun) {
-        let view = run.standing().view.map_or(0, |(_, view)| view.id);
+        let view = run.standing().view.map_or(0, |(_, view)| view.id % NAMES);
         if let Some(agrees) = self.device.take(run.entry(), tick, view) {
             let line = device_answered(self.now(), agrees, view);
             self.say(&line);

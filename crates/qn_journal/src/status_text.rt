@@ -15,7 +15,7 @@ use qn_names::{phase_name, write_why};
 use qn_shown::{Group, Heard};
 
 /// The high byte of a view's number names who may start: a number below this one names nobody in particular.
-const NAMES: u64 = 1 << 56;
+pub(crate) const NAMES: u64 = 1 << 56;
 
 /// The seat of the arbiter, one above those of the ranks.
 const ARBITER: usize = 32;
