@@ -1,5 +1,5 @@
 -- What a node takes from its settings text.
-use Rattle.std.proofs.Common.{◌≡◌, ℕ, Bool, false, inr, List, Option, Result, Ok, sym, ap, ◌∙◌, subst, codes, arith}
+use Rattle.std.proofs.Common.{◌≡◌, ℕ, Bool, true, false, inr, List, Option, Result, Ok, sym, ap, ◌∙◌, subst, codes, arith}
 use Rattle.std.specs.Prelude.{IsOkAnd, IsTrue}
 use Rattle.std.specs.declared.net.ip_addr.IpAddr.{IpAddr}
 use Rattle.qn_conf.specs.Conf.{conf_of}
@@ -22,7 +22,8 @@ pub names_none : (text : List ℕ) (tree : List Item) (net : DeviceNet) (named :
     → NamesOne text → ⊥
 names_none text tree net named is host only none names =
     let one : NamesArbiter tree = subst (λ (conf : Result (List Item) ConfFault). IsOkAnd conf NamesArbiter) (sym is) names in
-    subst IsTrue none (only one.1 (one.0, host ∙ one.2, one.3))
+    let yes : named ≡ true = only one.1 (one.0, host ∙ one.2, one.3) in
+    cc
 
 -- a good text that was read, and how a node polls by it
 pub reads_node : {before after : Input} {text : List ℕ} {settings : Settings} {polls : Option ℕ} → ReadsText before after text settings
