@@ -1,4 +1,5 @@
 """The must-fail edits in tests/edits: whose they are, which are due at a change or by date, and over which files those of a crate were refused last."""
+import collections
 import datetime
 import hashlib
 import os
@@ -8,8 +9,11 @@ import gatecosts
 
 TOP = pathlib.Path(__file__).resolve().parent.parent
 FOLDER = TOP / "tests" / "edits"
-DAYS = 7
+DAYS = 14
 SMALL = 200  # seconds
+MOST = 8  # edits of a crate on one day
+
+Part = collections.namedtuple("Part", "crate number count")  # the edits of a crate that are tried on one day, of so many such parts
 
 
 def crates():
@@ -21,9 +25,19 @@ def edits_of(crate):
     return sorted((FOLDER / crate).glob("*.edit"))
 
 
-def copies_of(crate):
-    """Where rt finds the edits of a crate."""
-    return [TOP / "crates" / crate / "must-fail" / edit.name for edit in edits_of(crate)]
+def copy_of(crate, edit):
+    """Where rt finds an edit of a crate."""
+    return TOP / "crates" / crate / "must-fail" / edit.name
+
+
+def parts_of(crate):
+    """The parts in which the edits of a crate are tried by date: as few as have at most MOST each."""
+    count = max(1, -(-len(edits_of(crate)) // MOST))
+    return [Part(crate, number, count) for number in range(count)]
+
+
+def edits_in(part):
+    return edits_of(part.crate)[part.number::part.count]
 
 
 def kept_seconds():
@@ -35,21 +49,28 @@ def seconds_of(crate, kept):
     return kept[crate].proof + kept[crate].edits if crate in kept else SMALL
 
 
+def seconds_of_part(part, kept):
+    """The same of a part of its edits."""
+    if part.crate not in kept:
+        return SMALL
+    return kept[part.crate].proof + kept[part.crate].edits / part.count
+
+
 def groups():
-    """The crates that are not small in seven groups, one for each day of a week, that take much the same time: each crate, the dearest first, goes to
-    the group that is the cheapest so far."""
+    """The parts of the edits of the crates that are not small in fourteen groups, one for each day of two weeks, that take much the same time: each part,
+    the dearest first, goes to the group that is the cheapest so far."""
     kept = kept_seconds()
     days, spent = [[] for _ in range(DAYS)], [0] * DAYS
-    large = [crate for crate in crates() if not is_small(crate)]
-    for crate in sorted(large, key=lambda crate: (-seconds_of(crate, kept), crate)):
+    large = [part for crate in crates() if not is_small(crate) for part in parts_of(crate)]
+    for part in sorted(large, key=lambda part: (-seconds_of_part(part, kept), part)):
         day = min(range(DAYS), key=lambda day: (spent[day], len(days[day])))
-        days[day].append(crate)
-        spent[day] += seconds_of(crate, kept)
+        days[day].append(part)
+        spent[day] += seconds_of_part(part, kept)
     return days
 
 
-def crates_of_day(day=None):
-    """The crates whose edits are tried on a day, today if none is given."""
+def parts_of_day(day=None):
+    """The parts whose edits are tried on a day, today if none is given."""
     day = day or datetime.datetime.now(datetime.timezone.utc).date()
     return groups()[day.toordinal() % DAYS]
 

@@ -102,16 +102,18 @@ class Estimate:
             an_edit = then.edits / then.size.edits
         return Cost(proof, proof if size.edits else 0, [an_edit] * size.edits, size.length)
 
-    def seconds_of_edits(self, name):
-        return self.costs[name].seed + sum(self.costs[name].edits)
+    def seconds_of_edits(self, name, count=None):
+        """Of all edits of a crate, or of so many."""
+        return self.costs[name].seed + sum(self.costs[name].edits[:count])
 
     def seconds_of(self, name):
         return self.costs[name].proof + self.seconds_of_edits(name)
 
-    def without_edits(self, names):
-        """Leaves out the edits of these crates."""
-        for name in names:
-            self.costs[name] = self.costs[name]._replace(seed=0, edits=[])
+    def with_edits(self, counts):
+        """Leaves out all edits of these crates but so many."""
+        for name, count in counts.items():
+            cost = self.costs[name]
+            self.costs[name] = cost._replace(seed=cost.seed if count else 0, edits=cost.edits[:count])
 
 
 def longest_chain(crates, costs):

@@ -1,4 +1,4 @@
-# tests/edits: the edits of a crate are tried once a week, and those of each crate that was changed since they were refused, of a small one also those
+# tests/edits: the edits of a crate are tried once in two weeks, at most eight of it on a day, and those of each crate that was changed since they were refused, of a small one also those
 # of one that stands on a changed crate; one that is not refused, or is a bad one, fails. And each edit of this repository can be applied: its texts
 # stand once in its file.
 . "$TOP/tests/expect.sh"
@@ -37,23 +37,38 @@ same "$(copies)" "$kept"
 [ ! -e clone/crates/one/must-fail ]
 clone/tests/edits/into --due > said
 same "$(tail -n 1 said)" 'edits of crates that were changed: none'
-of_day=$(sed -n 's/^edits of this day: //p' said)
+of_day=$(sed -n "s/^edits of this day: //p" said)
 wanted=$kept
 [ "$of_day" = none ] || wanted=$(printf './%s/must-fail/%s.edit\n' "$of_day" a "$of_day" b "two" kept | LC_ALL=C sort | tr '\n' ' ')
 same "$(copies)" "$wanted"
 clone/tests/edits/back
-# each crate once a week, three of them on three days and eight on seven, and dear ones apart
+# each crate once in two weeks, three of them on three days and fifteen on fourteen, and dear ones apart
 days='import datetime, edits
-days = [edits.crates_of_day(datetime.date(2026, 12, 30) + datetime.timedelta(day)) for day in range(14)]
-print(sorted(days[:7]), days[7:] == days[:7])'
-same "$(PYTHONPATH=clone/lib python3 -B -c "$days")" "[[], [], [], [], ['one'], ['three'], ['two']] True"
-mkdir clone/tests/edits/{four,five,six,seven,eight}
-same "$(PYTHONPATH=clone/lib python3 -B -c "$days")" "[['eight', 'two'], ['five'], ['four'], ['one'], ['seven'], ['six'], ['three']] True"
+days = [edits.parts_of_day(datetime.date(2026, 12, 30) + datetime.timedelta(day)) for day in range(28)]
+print(sorted(sorted("%s%d" % part[:2] for part in parts) for parts in days[:14] if parts), days[14:] == days[:14])'
+same "$(PYTHONPATH=clone/lib python3 -B -c "$days")" "[['one0'], ['three0'], ['two0']] True"
+mkdir clone/tests/edits/{a,b,c,d,e,f,g,h,i,j,k,l}
+letters="['b0'], ['c0'], ['d0'], ['e0'], ['f0'], ['g0'], ['h0'], ['i0'], ['j0'], ['k0'], ['l0'], ['one0'], ['three0']"
+same "$(PYTHONPATH=clone/lib python3 -B -c "$days")" "[['a0', 'two0'], $letters] True"
 mkdir clone/bench
-echo 'eight 290 10 1 0 2' > clone/bench/seconds
-same "$(PYTHONPATH=clone/lib python3 -B -c "$days")" "[['eight'], ['five', 'two'], ['four'], ['one'], ['seven'], ['six'], ['three']] True"
+echo 'a 290 10 1 0 2' > clone/bench/seconds
+same "$(PYTHONPATH=clone/lib python3 -B -c "$days")" "[['a0'], ['b0', 'two0'], ${letters#*, }] True"
 rm clone/bench/seconds
-rmdir clone/tests/edits/{four,five,six,seven,eight}
+rmdir clone/tests/edits/{a,b,c,d,e,f,g,h,i,j,k,l}
+# of nine edits of a crate five are tried on one day and four on another, and the crate is then not kept as tried
+for edit in c d e f g h i; do touch clone/tests/edits/one/$edit.edit; done
+same "$(PYTHONPATH=clone/lib python3 -B -c "$days")" "[['one0'], ['one1'], ['three0'], ['two0']] True"
+part='import edits
+print([" ".join(edit.stem for edit in edits.edits_in(part)) for part in edits.parts_of("one")])'
+same "$(PYTHONPATH=clone/lib python3 -B -c "$part")" "['a c e g i', 'b d f h']"
+mkdir clone/crates/one/must-fail
+cp clone/tests/edits/one/[bdfh].edit clone/crates/one/must-fail
+for edit in b d f h; do echo "rt: must-fail one/$edit.edit: refused, as it must be: src/lib.rt:1:1: error"; done > log
+before=$(cat clone/tests/edits/one/tried)
+clone/tests/edits/back log
+same "$(cat clone/tests/edits/one/tried)" "$before"
+same "$(copies)" "$kept"
+rm clone/tests/edits/one/[c-i].edit
 
 # changed: a source, an edit; not its must-fail folder
 echo '// new' >> clone/crates/one/src/lib.rt
@@ -65,7 +80,7 @@ same "$(tail -n 1 said)" 'edits of crates that were changed: one three'
 printf '%s\n' 'one: middle' 'two:' 'three: middle' 'middle: std low' 'low: std' > clone/crates.txt
 mkdir -p clone/crates/low/specs
 printf '%s\n' 'one 150 50 1 0 2' 'three 150 51 1 0 2' > clone/bench/seconds
-same "$(PYTHONPATH=clone/lib python3 -B -c "$days")" "[[], [], [], [], [], ['three'], ['two']] True"
+same "$(PYTHONPATH=clone/lib python3 -B -c "$days")" "[['three0'], ['two0']] True"
 clone/tests/edits/into --due > said
 refused one two three > log
 clone/tests/edits/back log
