@@ -19,7 +19,7 @@ import subprocess
 import sys
 
 TOP = pathlib.Path(os.environ["TOP"])
-PAGES = sorted([TOP / "README.md", *TOP.glob("docs/*.md"), *TOP.glob("bench/*.md"), *TOP.glob("contrib/*.md"),
+PAGES = sorted([TOP / "README.md", *TOP.glob("docs/**/*.md"), *TOP.glob("bench/*.md"), *TOP.glob("contrib/*.md"),
                 *TOP.glob("examples/**/*.md")])
 # tools that a machine may lack, and the Debian package of each
 PACKAGES = {"jq": "jq", "xxd": "xxd", "flock": "util-linux"}
@@ -27,7 +27,7 @@ PACKAGES = {"jq": "jq", "xxd": "xxd", "flock": "util-linux"}
 NEW_FOLDER = 'cd "$(mktemp -d)" && ln -s "$OLDPWD"/* .'
 # what a clone has at its top and the package in /usr/share/quorumd: the examples of all pages but those for whoever changes the program use nothing else
 PACKED = ("README.md", "contrib", "docs", "examples", "lib")
-OF_SOURCES = {"docs/ARCHITECTURE.md", "docs/CHANGING.md", "docs/PACKETS.md", "docs/PROVED.md", "bench/README.md"}
+OF_SOURCES = {"docs/dev/ARCHITECTURE.md", "docs/dev/CHANGING.md", "docs/dev/PACKETS.md", "docs/dev/PROVED.md", "bench/README.md"}
 wrong = []
 
 
@@ -160,13 +160,12 @@ def try_blocks(page, folder):
 
 
 def folder_of(page):
-    """A new folder in which what the page may use stands, with the program as bin/quorumd."""
+    """A new folder in which what the page may use stands, with the programs in its bin."""
     folder = pathlib.Path("run", str(page.relative_to(TOP)).replace("/", "-"))
     (folder / "bin").mkdir(parents=True)
-    (folder / "bin" / "quorumd").symlink_to(os.environ["QUORUMD"])
+    programs = {"quorumd": os.environ["QUORUMD"], "quorumctl": os.environ["QUORUMCTL"]}
     for script in (TOP / "bin").iterdir():
-        if script.name != "quorumd":
-            (folder / "bin" / script.name).symlink_to(script)
+        (folder / "bin" / script.name).symlink_to(programs.get(script.name, script))
     of_sources = str(page.relative_to(TOP)) in OF_SOURCES
     for there in TOP.iterdir():
         if there.name in PACKED or of_sources and there.name not in ("bin", "out") and not there.name.startswith("."):
@@ -177,13 +176,13 @@ def folder_of(page):
 # what stands in one place: a pattern of its lines, and the page
 PLACES = [
     (r"^\| `?unheard", "docs/STATUS.md", "the table of conditions"),
-    (r"^\| 16 \| `fault", "docs/FORMATS.md", "the table of exit statuses"),
-    (r"99 \*? ?\((M|msgwait) - 1\) >= 101", "docs/SAFETY.md", "the rule of safe times"),
+    (r"^\| 16 \| `fault", "docs/dev/FORMATS.md", "the table of exit statuses"),
+    (r"99 \*? ?\((M|msgwait) - 1\) >= 101", "docs/dev/SAFETY.md", "the rule of safe times"),
 ]
 
 
 # the pages that a newcomer tries in a clone: their examples take away what they made
-TIDY = ("README.md", "docs/README.md", "docs/TRY.md", "docs/STORIES.md", "docs/STATUS.md", "docs/LIVE.md", "docs/MACHINES.md")
+TIDY = ("README.md", "docs/README.md", "docs/dev/TRY.md", "docs/dev/STORIES.md", "docs/STATUS.md", "docs/HOST.md", "docs/MACHINES.md")
 
 
 def look_for_leftovers(page, folder):
@@ -262,11 +261,11 @@ def look_at_conditions():
 
 
 def look_at_statuses():
-    """The exit statuses of the manual page are those of docs/FORMATS.md."""
+    """The exit statuses of the manual page are those of docs/dev/FORMATS.md."""
     listed = re.findall(r"(?m)^\.It (\d\S*)", text_of("man/quorumd.8").split("\n.Sh EXIT STATUS\n")[1].split("\n.Sh ")[0])
-    table = re.findall(r"(?m)^\| (\d\S*)", text_of("docs/FORMATS.md").split("\n## Fault lines and statuses\n")[1].split("\n## ")[0])
+    table = re.findall(r"(?m)^\| (\d\S*)", text_of("docs/dev/FORMATS.md").split("\n## Fault lines and statuses\n")[1].split("\n## ")[0])
     if listed != table or len(table) < 10:
-        wrong.append("man/quorumd.8 has the statuses %s, and docs/FORMATS.md %s" % (" ".join(listed), " ".join(table)))
+        wrong.append("man/quorumd.8 has the statuses %s, and docs/dev/FORMATS.md %s" % (" ".join(listed), " ".join(table)))
 
 
 def look_at_night():

@@ -1,4 +1,4 @@
-"""Each name of docs/PROVED.md stands in the sources of its crate: functions, methods and types of the tables, and the clauses of
+"""Each name of docs/dev/PROVED.md stands in the sources of its crate: functions, methods and types of the tables, and the clauses of
 `top` or of the function that a row names. And each function of the rows by crate runs: the program, its companion or a test
 calls it, or it stands on another one of its row that they call."""
 import functools
@@ -7,7 +7,7 @@ import sys
 
 from cratefiles import LINES, TOP, files_of
 
-PAGE = (TOP / "docs" / "PROVED.md").read_text()
+PAGE = (TOP / "docs" / "dev" / "PROVED.md").read_text()
 wrong = []
 
 
@@ -33,7 +33,7 @@ def look(crate, text, cell):
     for name in re.findall(r"`([\w:.]+)`", cell):
         known = name in ("requires", "specs") or name.startswith("qn_")
         if not known and not all(is_there(text, part) for part in name.split(".")):
-            wrong.append("docs/PROVED.md names `%s`, which is not in crates/%s" % (name, crate))
+            wrong.append("docs/dev/PROVED.md names `%s`, which is not in crates/%s" % (name, crate))
 
 
 # the clauses of `top`, and the records of commands with their fields
@@ -91,7 +91,7 @@ def look_at_use(crates, cell):
     run = {name for name in method if "law_" in name or is_called(crates, name, method[name])}
     for name in method:
         if name not in run and not any(calls(body(own, name), other, method[other]) for other in run):
-            wrong.append("docs/PROVED.md names `%s` of %s, which neither the program nor a test calls" % (name, crates[0]))
+            wrong.append("docs/dev/PROVED.md names `%s` of %s, which neither the program nor a test calls" % (name, crates[0]))
 
 
 libraries = {}
@@ -109,11 +109,11 @@ for row in rows("Crate by crate"):
     look(crates[0], "\n".join(sources(crate) for crate in crates), row[-1])
     look_at_use(crates, row[-1])
 
-# every status of docs/FORMATS.md has a row
-formats = (TOP / "docs" / "FORMATS.md").read_text().split("\n## Fault lines and statuses\n")[1].split("\n## ")[0]
+# every status of docs/dev/FORMATS.md has a row
+formats = (TOP / "docs" / "dev" / "FORMATS.md").read_text().split("\n## Fault lines and statuses\n")[1].split("\n## ")[0]
 for status in re.findall(r"(?m)^\| (\d+) \|", formats):
     if status not in [row[0] for row in rows("Exit statuses")]:
-        wrong.append("docs/PROVED.md has no row for the status %s" % status)
+        wrong.append("docs/dev/PROVED.md has no row for the status %s" % status)
 
 print("\n".join(wrong))
 sys.exit(1 if wrong else 0)
