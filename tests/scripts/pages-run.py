@@ -9,7 +9,7 @@
   text             no command
 
 And what has one place stands there alone: the table of conditions, the exit statuses, the rule of safe times. The manual page is read alone, so it has
-the conditions and the statuses too, and they are those of the pages. What `quorumctl status` can say, docs/MACHINES.md says what to do about. Each link
+the conditions and the statuses too, and they are those of the pages. What `quorumctl status` can say, docs/NIGHT.md says what to do about. Each link
 leads somewhere, and no cell of a table is a paragraph."""
 import os
 import pathlib
@@ -175,14 +175,14 @@ def folder_of(page):
 
 # what stands in one place: a pattern of its lines, and the page
 PLACES = [
-    (r"^\| `?unheard", "docs/STATUS.md", "the table of conditions"),
+    (r"^\| `?unheard", "docs/NIGHT.md", "the table of conditions"),
     (r"^\| 16 \| `fault", "docs/dev/FORMATS.md", "the table of exit statuses"),
     (r"99 \*? ?\((M|msgwait) - 1\) >= 101", "docs/dev/SAFETY.md", "the rule of safe times"),
 ]
 
 
 # the pages that a newcomer tries in a clone: their examples take away what they made
-TIDY = ("README.md", "docs/README.md", "docs/dev/TRY.md", "docs/dev/STORIES.md", "docs/STATUS.md", "docs/HOST.md", "docs/MACHINES.md")
+TIDY = ("README.md", "docs/README.md", "docs/dev/TRY.md", "docs/dev/STORIES.md", "docs/dev/LIVE.md", "docs/STATUS.md", "docs/HOST.md", "docs/IMAGE.md", "docs/MACHINES.md", "docs/NIGHT.md")
 
 
 def look_for_leftovers(page, folder):
@@ -244,8 +244,8 @@ SAID_AT_NIGHT = (
     "down", "holding", "no-view", "wait-for-all", "not-quorate:", "not-chosen:", "held-by:", "unheard:", "unfenced:N:unwritten", "unfenced:N:LEFT", "clear",
     "`off`", "`booting`", "`up`", "`leaving`", "`dying`", "`silent`", "`ended`",
     "mail reset", "crashdump", "mail exit", "mail damaged", "mail failed",
-    "healthy: ", "degraded: ", "no owner: ", "unknown: no node answers", "owner not among the nodes that are looked at", "says held-by:", "does not see",
-    "not quorate", "ended: ", "silent for", "is of another boot of this host", "TWO HOLDERS: ",
+    "healthy: ", "degraded: ", "no owner: ", "unknown: no node answers", "owner not known: ", "tells nothing", "hands over to", "its group is", "nothing looks after its group",
+    "does not see", "refused: another key or text", "not quorate", "is leaving", "is dying", "ended: ", "silent for", "is of another boot of this host", "TWO HOLDERS: ",
 )
 
 
@@ -255,7 +255,7 @@ def text_of(place):
 
 def look_at_conditions():
     """Each condition that blocks a start has its row, its place in the schema, and its item of the manual page."""
-    places = {"docs/STATUS.md": r"(?m)^\| `%s[`:]", "docs/status.schema.json": r"[\"(|^]%s[\"|):]", "man/quorumd.8": r"(?m)^\.It Ql %s\b"}
+    places = {"docs/NIGHT.md": r"(?m)^\| `%s[`:]", "docs/status.schema.json": r"[\"(|^]%s[\"|):]", "man/quorumd.8": r"(?m)^\.It Ql %s\b"}
     for why in CONDITIONS:
         wrong.extend("%s has no %s" % (place, why) for place, pattern in places.items() if not re.search(pattern % why, text_of(place)))
 
@@ -269,9 +269,9 @@ def look_at_statuses():
 
 
 def look_at_night():
-    """docs/MACHINES.md says what to do about all that `quorumctl status` can say."""
-    part = text_of("docs/MACHINES.md").split("\n## At three in the morning\n")[1].split("\n## Upgrades\n")[0]
-    wrong.extend("docs/MACHINES.md says nothing of %s" % word for word in SAID_AT_NIGHT if word not in part)
+    """docs/NIGHT.md says what to do about all that `quorumctl status` can say."""
+    page = text_of("docs/NIGHT.md")
+    wrong.extend("docs/NIGHT.md says nothing of %s" % word for word in SAID_AT_NIGHT if word not in page)
 
 
 for page in PAGES:
