@@ -7,7 +7,7 @@ _quorumd_takes() {
     case $* in
     quorumd)
         commands=(count replay status soak create dump list message node migrate replay3 node3 replay-arbiter node-logged audit node3-logged arbiter help)
-        options=(--links/file/--links --key/file/ --open//--open --seal-meaning//--seal-meaning --halt/file/--halt --status/file/--status --leave-file/file/--leave-file --blank//--blank --anew//--anew)
+        options=(--links/file/--links --key/file/ --open//--open --seal-meaning//--seal-meaning --halt/file/--halt --status/file/--status --leave-file/file/--leave-file --group/file/--group --blank//--blank --anew//--anew)
         ;;
     'quorumd status')
         options=('--form/words text json/--form')
@@ -81,6 +81,14 @@ _quorumd_takes() {
     quorumd-acceptance)
         operands=(file none)
         options=(--check//--check --anew//--anew --yes/none/--yes)
+        ;;
+    quorumd-page)
+        operands=(file)
+        options=(--every/none/--every --status/file/ --journal/file/)
+        ;;
+    quorumd-collect)
+        operands=(file)
+        options=(--since/none/--since --until/none/--until)
         ;;
     quorumd-resource)
         commands=(run status check move maintenance)
@@ -214,4 +222,4 @@ _quorumd() {
     fi
 }
 
-complete -F _quorumd quorumd quorumctl quorumd-setup quorumd-acceptance quorumd-resource story timeline scenario storm campaign soak-nodes
+complete -F _quorumd quorumd quorumctl quorumd-setup quorumd-acceptance quorumd-page quorumd-collect quorumd-resource story timeline scenario storm campaign soak-nodes

@@ -9,7 +9,7 @@ function __quorumd_takes
     switch "$argv"
         case quorumd
             set -g __quorumd_commands 'count	which of several views has the majority' 'replay	what a cluster does, event by event' 'status	how each node stands after a schedule' 'soak	what so many events, drawn from a seed, come to' 'create	makes the disk image of a cluster' 'dump	the header of an image' 'list	the nodes of an image, with their messages' 'message	leaves a message to a node' 'node	runs a node of the cluster' 'migrate	brings an image of version 1 to version 2' 'replay3	what a cluster does on three images, event by event' 'node3	runs a node of the cluster on three images' 'replay-arbiter	what a cluster does beside an arbiter, event by event' 'node-logged	the same as node, with a line for each of its calls' 'audit	whether the record of a node is a run of it' 'node3-logged	the same as node3, with a line for each of its calls' 'arbiter	answers the nodes of the cluster, as its quorum device' 'help	the names of the commands'
-            set -g __quorumd_options --links/file/--links/CONF --key/file//FILE --open//--open/ --seal-meaning//--seal-meaning/ --halt/file/--halt/FILE --status/file/--status/FILE --leave-file/file/--leave-file/FILE --blank//--blank/ --anew//--anew/
+            set -g __quorumd_options --links/file/--links/CONF --key/file//FILE --open//--open/ --seal-meaning//--seal-meaning/ --halt/file/--halt/FILE --status/file/--status/FILE --leave-file/file/--leave-file/FILE --group/file/--group/FILE --blank//--blank/ --anew//--anew/
         case 'quorumd status'
             set -g __quorumd_options '--form/words text json/--form/text|json'
         case 'quorumd soak'
@@ -37,7 +37,7 @@ function __quorumd_takes
         case 'quorumd arbiter'
             set -g __quorumd_options --port/none/--port/1024..65000 --turns/none/--turns/1..9223372036854775808
         case quorumctl
-            set -g __quorumd_commands 'settings	what is read of a corosync.conf, and what of it is risky or wrong' 'timing	the least safe msgwait for these times, and how long a take-over takes on which disk' 'watchdog	what the kernel says of a watchdog, and whether a node may arm it' 'check	what is wrong with an image, and whether it fits a corosync.conf' 'list	the nodes of an image, with their messages' 'wait	returns when the message to a node was read, or msgwait has passed' 'status	what the status files of the nodes of this host come to' 'history	what the journals of the nodes tell, in the order of time' 'group	what is to be done to the resources of a host, event by event, for its supervisor'
+            set -g __quorumd_commands 'settings	what is read of a corosync.conf, and what of it is risky or wrong' 'timing	the least safe msgwait for these times, and how long a take-over takes on which disk' 'watchdog	what the kernel says of a watchdog, and whether a node may arm it' 'check	what is wrong with an image, and whether it fits a corosync.conf' 'list	the nodes of an image, with their messages' 'wait	returns when the message to a node was read, or msgwait has passed' 'status	what the status files of the nodes of this host come to; without FILE those in /run/quorumd' 'history	what the journals of the nodes tell, in the order of time' 'group	what is to be done to the resources of a host, event by event, for its supervisor'
         case 'quorumctl timing'
             set -g __quorumd_options --watchdog/none/--watchdog/1..3600000 --loop/none/--loop/1..3600000 --read-limit/none/--read-limit/1..3600000 --feed-delay/none/--feed-delay/1..3600000 --disk/none/--disk/1..3600000
         case 'quorumctl watchdog'
@@ -60,6 +60,12 @@ function __quorumd_takes
         case quorumd-acceptance
             set -g __quorumd_operands file none
             set -g __quorumd_options --check//--check/ --anew//--anew/ '--yes/none/--yes/TEST[,TEST..]'
+        case quorumd-page
+            set -g __quorumd_operands file
+            set -g __quorumd_options --every/none/--every/SECONDS --status/file//FILE --journal/file//FILE
+        case quorumd-collect
+            set -g __quorumd_operands file
+            set -g __quorumd_options --since/none/--since/TIME --until/none/--until/TIME
         case quorumd-resource
             set -g __quorumd_commands 'run	looks after the resources of this host, for systemd' 'status	how the resources stand' 'check	whether the file of the resources is well-formed' 'move	moves the resources to another node' 'maintenance	on: nothing is started, and no failure counts'
         case 'quorumd-resource maintenance'
@@ -155,6 +161,6 @@ function __quorumd_offers
     end
 end
 
-for program in quorumd quorumctl quorumd-setup quorumd-acceptance quorumd-resource story timeline scenario storm campaign soak-nodes
+for program in quorumd quorumctl quorumd-setup quorumd-acceptance quorumd-page quorumd-collect quorumd-resource story timeline scenario storm campaign soak-nodes
     complete -c $program -f -a '(__quorumd_offers)'
 end

@@ -15,9 +15,30 @@ Change = namedtuple("Change", "company since begun")
 Told = namedtuple("Told", "tick says announced")
 
 LAST_NUMBER = 2 ** 64 - 1
+NOBODY = 254  # the high byte of the number of a view under which nobody may start
 
 # What a Hello of an older version says: it names everybody, follows nobody, and is able.
 PLAIN = Said(range(2 ** 32), None, True)
+
+
+def name_of(number):
+    """The high byte of a view's number where it says who may start under it, else 0."""
+    high = number >> 56
+    return high if 1 <= high <= 32 or high == NOBODY else 0
+
+
+def plain_number(number):
+    """The number of a view without its name."""
+    return number % 2 ** 56 if name_of(number) else number
+
+
+def next_number(greatest, name=0):
+    """The number of a view after the greatest one so far, with a name where there is one. Without one there is none above the last number, and none
+    where the next one would be a name: the greatest one comes again."""
+    if name:
+        return name << 56 | min(greatest % 2 ** 56 + 1, 2 ** 56 - 1)
+    following = min(greatest + 1, LAST_NUMBER)
+    return greatest if name_of(following) else following
 
 
 class Member:
@@ -62,7 +83,7 @@ class Member:
             if sender not in view.members:
                 self.hellos.pop(sender, None)
             self.announced[sender] = view
-            self.greatest = max(self.greatest, view.number)
+            self.greatest = max(self.greatest, plain_number(view.number))
 
     # ---- whom it knows
 
@@ -100,7 +121,7 @@ class Member:
             self.first_look = tick
         company = self.note(tick)
         view = None
-        if self.view is not None or company == self.ids or tick >= self.first_look + self.first_loops(tick, company) * self.loop:
+        if self.view is not None or self.is_complete(company) or tick >= self.first_look + self.first_loops(tick, company) * self.loop:
             view = self.own_view(tick, company) if self.leader == self.ident else self.followed_view()
         if view is not None:
             self.install(view, company)
@@ -119,6 +140,10 @@ class Member:
         self.change = self.change_at(tick, company)
         self.differs = {ident: self.differs.get(ident, tick) for ident in self.ids if self.is_other(ident, company)}
         return company
+
+    def is_complete(self, company):
+        """Whether a first view waits for nobody."""
+        return company == self.ids
 
     def first_loops(self, tick, company):
         """For so many loops the first view waits for all: one more where somebody is heard that is not in company yet."""
@@ -145,13 +170,13 @@ class Member:
         moved, settled = members ^ set(self.present()), {ident for ident in self.ids if (ident in members) == (ident in company)}
         self.differs = {ident: since for ident, since in self.differs.items() if ident not in moved | settled}
         self.view, self.change = view, None
-        self.greatest = max(self.greatest, view.number)
+        self.greatest = max(self.greatest, plain_number(view.number))
 
     # ---- the view of a leader, and of one that follows
 
     def own_view(self, tick, company):
         members = self.members_at(tick, company) if self.change is not None else None
-        return View(min(self.greatest + 1, LAST_NUMBER), members) if members not in (None, self.present()) else None
+        return View(next_number(self.greatest), members) if members not in (None, self.present()) else None
 
     def members_at(self, tick, company):
         """The members of an own view at this tick; None where it waits."""
@@ -159,7 +184,7 @@ class Member:
         if all(ident in company or self.has_left(ident) for ident in self.ids):
             return company
         if self.view is None:
-            return company if is_same or tick >= self.change.begun + 3 * self.loop else None
+            return company if is_same or self.is_first_due(tick) else None
         overdue = {ident for ident, since in self.differs.items() if tick >= since + 3 * self.loop and not self.has_left(ident)}
         doubted = [ident for ident in self.present() if ident in self.differs and not self.has_left(ident) and ident not in overdue]
         if set(doubted) & set(self.heard(tick)):
@@ -167,6 +192,10 @@ class Member:
         if is_same:
             return company
         return tuple(sorted({*company, *doubted})) if overdue else None
+
+    def is_first_due(self, tick):
+        """Whether a first view is made though the company changed within a loop."""
+        return tick >= self.change.begun + 3 * self.loop
 
     def followed_view(self):
         view = self.announced.get(self.leader)
@@ -183,22 +212,26 @@ class Member:
         if is_beat:
             self.last_beat = tick
         if is_due:
-            self.told = Told(tick, self.says, self.to_announce())
+            self.told = Told(tick, self.to_say(), self.to_announce())
         return is_due
 
     def has_news(self):
         """Whether a Hello would say something else than the last one, or there is a new view to announce."""
-        return self.told is not None and (self.told.says != self.says or self.to_announce() not in (None, self.told.announced))
+        return self.told is not None and (self.told.says != self.to_say() or self.to_announce() not in (None, self.told.announced))
 
     def news_wait(self, tick):
         """For how many milliseconds more news have to wait."""
         return max(0, self.told.tick + (self.loop + 15) // 16 - tick)
+
+    def to_say(self):
+        """What a Hello says now."""
+        return self.says
 
     def to_announce(self):
         """The view that this node announces after its Hellos: its own, where it is the least member."""
         return self.view if self.view is not None and self.view.members[0] == self.ident else None
 
     def farewell(self):
-        """What a node that left clean announces: its view without itself; None where nobody else is in it."""
+        """What a node that left clean announces: its view without itself and without a name; None where nobody else is in it."""
         others = tuple(ident for ident in self.view.members if ident != self.ident) if self.view is not None else ()
-        return View(self.view.number, others) if others else None
+        return View(plain_number(self.view.number), others) if others else None

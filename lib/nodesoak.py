@@ -14,8 +14,8 @@ from traces import program
 
 TOP = pathlib.Path(__file__).resolve().parent.parent
 KINDS = ("quiet", "cuts", "kills", "pauses", "disks", "damages", "operators", "losses", "leaves", "restarts", "agents", "isolations", "links",
-         "device-links", "device", "images", "mixed")
-LINKED = ("links", "device-links")  # kinds whose seeds are patterns of cut links, one after another
+         "device-links", "named-links", "standbys", "witness", "outages", "device", "images", "mixed")
+LINKED = ("links", "device-links", "named-links")  # kinds whose seeds are patterns of cut links, one after another
 SPREAD = 7919  # from one of their seeds to the next, so that few seeds are patterns of all sorts, while the nodes run and before they boot
 NODES = (3, 2, 5)
 DELAYS = (0, 3000)

@@ -21,6 +21,9 @@ class Commands:
             "hang": self.hang,
             "wake": self.wake,
             "leave": self.leave,
+            "standby": self.standby,
+            "fit": self.fit,
+            "pull": self.pull,
             "message": self.message,
             "split": world.network.split,
             "cut": self.cut,
@@ -97,6 +100,20 @@ class Commands:
             if not host.is_ready() or host.node.phase != "up":
                 raise NotNow("node %d is not up" % ident)
             self.world.event("leave %d" % ident)
+
+    # ---- what a host says of its node
+
+    def standby(self, ident, is_on):
+        host = self.world.hosts[ident]
+        host.words = host.words._replace(barred=is_on)
+
+    def fit(self, ident, is_fit):
+        host = self.running(ident)
+        host.words = host.words._replace(unfit=not is_fit)
+
+    def pull(self, ident):
+        host = self.running(ident)
+        host.pulls_since = host.tick
 
     def message(self, ident, message):
         try:

@@ -26,6 +26,9 @@ COMMANDS = {
     "hang": Command("hang ID..", "ids"),
     "wake": Command("wake ID..", "ids"),
     "leave": Command("leave ID..", "ids"),
+    "standby": Command("standby ID on|off", "id on|off"),
+    "fit": Command("fit ID yes|no", "id yes|no"),
+    "pull": Command("pull ID", "id"),
     "message": Command("message ID clear|test|reset|off|exit|crashdump", "id message"),
     "split": Command("split ID.. | ID..", "parts"),
     "cut": Command("cut ID..", "ids"),
@@ -181,11 +184,19 @@ class Reader:
             if word not in MESSAGES:
                 raise self.fault(word, "no message")
             return word
+        if "|" in kind:
+            return self.is_first(kind.split("|"), word)
         least, most = RANGES[kind]
         value = number_of(word, least, most)
         if value is None:
             raise self.fault(word, "not a number from %d to %d" % (least, most))
         return value
+
+    def is_first(self, words, word):
+        """Whether a word is the first of these two, or the second one."""
+        if word not in words:
+            raise self.fault(word, "neither %s nor %s" % tuple(words))
+        return word == words[0]
 
     def ident(self, word):
         value = number_of(word, 1, 2 ** 32 - 1)

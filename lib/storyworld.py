@@ -4,7 +4,7 @@ each of them to `quorumd replay`. What a node does is what the trace says; nothi
 import heapq
 import itertools
 
-from members import Member
+from naming import SILENT, NamingMember
 from nodes import Node, operation_in
 from replaying import MOST_EVENTS
 
@@ -12,6 +12,7 @@ DISK_MS = 6  # from the asking for an operation to its answer; it lands halfway
 NETWORK_MS = 2  # from the sending of a packet to its arrival
 STOP_MS = 50  # from the asking for a stop of the resource to its answer
 DOWN_MS = 10  # from the reading of a deadly message until the machine is down
+PULL_LOOPS = 60  # for so many loops a pull waits for a start
 LOOKS = 5  # how often a node looks at its clock in the loop's time of the image
 STAGGER = 618  # thousandths of the loop's time between two boots of one line, counted round within a loop
 
@@ -37,6 +38,8 @@ class Host:
         self.hangs = False
         self.missed = []  # what its machine would have handed it while it hung
         self.member = None
+        self.words = SILENT  # what this host says of its node
+        self.pulls_since = None  # the tick since which it asks for the resource, while it does
         self.has_news = False  # it waits to say them
         self.voted = None  # its tick when the device was heard or asked last, and the view then
 
@@ -47,6 +50,7 @@ class Host:
         self.clock, self.fed = 0, now
         self.hangs, self.missed = False, []
         self.member, self.has_news, self.voted = None, False, None
+        self.words, self.pulls_since = self.words._replace(unfit=False), None
 
     @property
     def tick(self):
@@ -57,6 +61,12 @@ class Host:
 
     def takes_part(self):
         return self.is_ready() and self.node.phase in ("up", "leaving")
+
+    def look(self, holds, loop):
+        """The view that the node is told at its tick, by what its host says. A pull ends once the node holds, and some loops after its word."""
+        if self.pulls_since is not None and (holds or self.tick >= self.pulls_since + PULL_LOOPS * loop):
+            self.pulls_since = None
+        return self.member.look(self.tick, self.words._replace(pull=self.pulls_since is not None), holds)
 
 
 class Network:
@@ -154,7 +164,8 @@ class World:
         self.serve(host, report.outs)
         for deed in deeds:
             if deed.kind == "up":
-                host.member = Member(host.ident, self.votes.of_nodes, self.votes.enough, self.timing.loop)
+                host.member = NamingMember(host.ident, self.votes.of_nodes, self.votes.enough, self.timing.loop)
+                host.member.stand(host.words, False)
             if deed.kind == "halts" and host.node.runs:
                 self.later_in_boot(DOWN_MS, host, self.crash, "by that message")
             if deed.kind == "left" and host.node.is_closed:
@@ -278,7 +289,7 @@ class World:
 
     def look(self, host):
         """Whether the node is told a view."""
-        view = host.member.look(host.tick)
+        view = host.look(host.ident in self.holders, self.timing.loop)
         if view is not None:
             self.event("view %d %d %s" % (host.ident, view.number, ",".join(map(str, view.members))))
         return view is not None
@@ -290,7 +301,7 @@ class World:
         member = host.member
         if member.is_hello_due(host.tick):
             view = member.to_announce()
-            self.tell_others(host, self.hear_hello, member.says)
+            self.tell_others(host, self.hear_hello, member.to_say())
             if view is not None:
                 self.tell_others(host, self.hear_announce, view)
         elif member.has_news() and not host.has_news:
@@ -307,9 +318,9 @@ class World:
         if view is not None:
             self.tell_others(host, self.hear_announce, view)
 
-    def hear_hello(self, host, sender, said):
+    def hear_hello(self, host, sender, hello):
         if host.takes_part():
-            host.member.on_hello(host.tick, sender, said)
+            host.member.on_hello(host.tick, sender, *hello)
             self.look(host)
             self.greet(host)
 
@@ -325,7 +336,7 @@ class World:
             self.event("device %d yes" % host.ident)
 
     def is_vote_due(self, host):
-        now = (host.tick, host.member.view)
+        now = (host.tick, host.member.handed)
         is_due = host.voted is None or host.voted[1] != now[1] or now[0] >= host.voted[0] + self.timing.loop
         if is_due:
             host.voted = now

@@ -4,7 +4,8 @@ import re
 import struct
 from collections import namedtuple
 
-from members import PLAIN, Member, Said, View
+from members import NOBODY, PLAIN, Said, View, name_of
+from naming import SILENT, NamingMember, standing_of
 from records import whole_lines
 
 ERROR, WARNING, NOTICE, INFORMATION = 3, 4, 5, 6
@@ -13,7 +14,7 @@ DEADLY = {"reset", "off", "crashdump"}
 HALTS = {2: "reset", 3: "off", 5: "crashdump"}
 SELDOM = 10000  # milliseconds between two lines of what happens often
 MAILBOXES = 512  # the sector of the first mailbox
-NOBODY = 254  # the high byte of the number of a view under which nobody may start
+PULL_LOOPS = 60  # for so many loops a pull of its host waits for a start
 
 # A turn of a record: the bytes that were received, None where nothing was and False where nothing was asked for; the tick; and the calls
 # after it, each as a list of words.
@@ -41,14 +42,9 @@ def turns_of(lines):
     return turns
 
 
-def is_name(high):
-    """Whether the high byte of a view's number names a rank, or says that nobody may start."""
-    return 0 < high <= 32 or high == 254
-
-
 def packet_of(data):
-    """A packet as its kind and its fields, or None where the bytes are none."""
-    lengths = {1: 33, 2: 34, 3: 4, 4: 16, 5: 4, 8: 12, 11: 16}
+    """A packet, or a word of this host, as its kind and its fields; None where the bytes are none."""
+    lengths = {1: 33, 2: 34, 3: 4, 4: 16, 5: 4, 8: 12, 11: 16, 12: 4, 13: 5}
     if data[:2] != b"QN" or len(data) < 4 or lengths.get(data[2]) != len(data):
         return None
     kind, fields = data[2], data[3:]
@@ -58,12 +54,15 @@ def packet_of(data):
         return (kind, fields[0]) if fields[0] < 32 else None
     if kind in (4, 11):
         number, members = struct.unpack(">QL", fields[1:13])
-        is_packet = fields[0] < 32 and members and (kind == 11 or not is_name(number >> 56))
+        is_packet = fields[0] < 32 and members and (kind == 11 or not name_of(number))
         return (4, fields[0], (number, members)) if is_packet else None
     if kind == 8:
-        hears, follows, able = struct.unpack(">LBB", fields[1:7])
+        hears, follows, able, flags, weight = struct.unpack(">LBBBB", fields[1:9])
         is_packet = fields[0] < 32 and hears >> fields[0] & 1 and follows <= 32 and able < 2
-        return (kind, fields[0], (hears, None if follows == 32 else follows, able == 1)) if is_packet else None
+        said = hears, None if follows == 32 else follows, able == 1
+        return (kind, fields[0], said, standing_of(flags, weight)) if is_packet else None
+    if kind in (12, 13):
+        return (kind, *fields) if fields[0] == 1 or kind == 13 and fields[0] < 8 else None
     sender, to, incarnation, install, number, members = struct.unpack(">BBQQQL", fields[:30])
     if sender >= 32 or to >= 32 or not members or (kind == 2 and fields[30] > 3):
         return None
@@ -105,7 +104,8 @@ class Told:
         self.waits_stopped, self.waits_disk, self.rests, self.asked_tick = None, None, False, 0
         self.out_place, self.slots, self.resets = {}, [], []
         self.mail, self.mail_state = ("empty", None), None
-        self.last_look = 0
+        self.last_look, self.is_asked_to_leave = 0, False
+        self.word, self.pulls_since, self.before_tick = SILENT, None, 0  # what this host says of the node, and since when it pulls
         self.hellos, self.seen = {}, set()
         self.late, self.refused = Seldom(), Seldom()
         self.before = self.standing()
@@ -122,10 +122,14 @@ class Told:
         if turn.received is None:
             return self.looked(None)
         packet = packet_of(turn.received)
-        if packet is None:
+        if packet is None or packet[0] in (12, 13):
             self.refused.untold += 1
         elif packet[0] in (3, 8):
             self.greeted = packet[1]
+        if packet is not None and packet[0] == 12:
+            self.is_asked_to_leave = True
+        elif packet is not None and packet[0] == 13:
+            self.take_word(*packet[1:])
         if packet is not None and (packet[0] == 5 or packet[0] in (1, 2) and packet[2] == self.me):
             return {1: "ask", 2: "tell", 5: "device"}[packet[0]], packet
         return self.looked(packet)
@@ -143,7 +147,7 @@ class Told:
         return self.looked(None) if is_late and not self.is_to_leave() else ("leave", None)
 
     def is_to_leave(self):
-        return self.phase == "up" and self.leave is not None and self.leave <= self.turns
+        return self.phase == "up" and (self.is_asked_to_leave or self.leave is not None and self.leave <= self.turns)
 
     def is_late(self):
         """Whether the last entry came a loop after the last look of the view maker, or later: a turn then receives nothing, and looks."""
@@ -156,14 +160,27 @@ class Told:
         if packet and packet[0] in (3, 4, 8) and packet[1] < len(self.ids) and packet[1] != self.me:
             self.heard(self.ids[packet[1]], packet)
         self.last_look = self.tick
-        view = self.member.look(self.tick)
+        view = self.member.look(self.tick, self.words_of_host(), self.holds)
         return ("view", view) if view is not None else ("tick", None)
+
+    def take_word(self, flags, weight):
+        """What this host says of its node from now on; of words in a row that pull the first one counts."""
+        pulls = flags & 4 > 0
+        since = self.before_tick if pulls and not self.word.pull else self.pulls_since
+        self.word = SILENT._replace(barred=flags & 1 > 0, unfit=flags & 2 > 0, pull=pulls, weight=weight)
+        self.pulls_since = since if pulls else None
+
+    def words_of_host(self):
+        """The same at a look. A pull ends where the node holds, and some loops after its word."""
+        if self.pulls_since is not None and (self.holds or self.tick >= self.pulls_since + PULL_LOOPS * self.loop):
+            self.pulls_since = None
+        return self.word._replace(pull=self.pulls_since is not None)
 
     def heard(self, sender, packet):
         if packet[0] == 3:
             self.member.on_plain_hello(self.tick, sender)
         elif packet[0] == 8:
-            self.member.on_hello(self.tick, sender, self.said_of(*packet[2]))
+            self.member.on_hello(self.tick, sender, self.said_of(*packet[2]), packet[3])
         elif packet[2][1] < 1 << len(self.ids):
             self.member.on_announce(sender, self.view_of(packet[2]))
 
@@ -263,7 +280,7 @@ class Told:
     def chosen(self):
         """The id of the node that its view lets start: the member that the high byte of its number names, counted from 1, else the least;
         0 where none may."""
-        name = self.view.number >> 56
+        name = name_of(self.view.number)
         if name == NOBODY:
             return 0
         named = self.ids[name - 1] if 0 < name <= len(self.ids) else None
@@ -285,7 +302,7 @@ class Told:
 
     def turn(self, turn):
         is_late = self.is_late()
-        self.tick, self.greeted = turn.tick, None
+        self.before_tick, self.tick, self.greeted = self.tick, turn.tick, None
         self.turns += 1
         kind, given = self.entry(turn, is_late)
         self.take(kind, given)
@@ -300,7 +317,7 @@ class Told:
         if self.phase not in ("up", "leaving"):
             self.member = None
         elif self.member is None:
-            self.member, self.last_look = Member(self.ident, dict.fromkeys(self.ids, 1), len(self.ids) // 2 + 1, self.loop), self.tick
+            self.member, self.last_look = NamingMember(self.ident, dict.fromkeys(self.ids, 1), len(self.ids) // 2 + 1, self.loop), self.tick
 
     def tell_mail(self, kind, given):
         if kind != "disk" or given.kind not in ("mail", "check"):

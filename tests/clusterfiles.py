@@ -41,6 +41,8 @@ def at(moment, made):
     for peer in moved["peers"]:
         if peer["hello_tick"] is not None:
             peer["hello_tick"] += moment
+        if peer.get("told") is not None:
+            peer["told"]["tick"] += moment
     return moved
 
 

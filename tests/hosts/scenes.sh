@@ -1,5 +1,5 @@
 # The scenes. Each is a function that fails where something else came than should. Sourced by `containers`.
-all_scenes='clean_stop exit_message off_message reboot_of_holder poweroff_of_holder kill_node hang_node cable_cut deaf_holder no_image other_image slow_stop stuck_stop
+all_scenes='clean_stop exit_message off_message reboot_of_holder poweroff_of_holder kill_node looks hang_node cable_cut deaf_holder no_image other_image slow_stop stuck_stop
 by_hand supervisor_dies supervisor_hangs reexecuted reloaded slow_start quorum_back quorum_lost all_off all_rebooted late_disk late_network isolated run_full journal_hangs moves stop_while_starting edited start_mode resource_dies start_fails maintenance planned_handover third_handover turns_used renewed three_images confined
 postgres pgsql system_upgraded database_upgraded upgrade purge pages setup setup_by_names page_device page_servers page_etcd acceptance acceptance_servers acceptance_red arbiter arbiter_by_name arbiter_removed'
 
@@ -88,6 +88,39 @@ scene_kill_node() {
     said 1 'node 1 ended with killed' -b -1 || return 1
     sleep 5
     until_true 3 another_owns 1 && [ "$(resets 1)" = 1 ]
+}
+
+# is_page HOST WORDS: whether the page of that host has these words
+is_page() { on "$1" grep -qsF "$2" /run/quorumd-page/index.html; }
+
+# is_written_after COUNT: whether the page of host 2 was written more often than that
+is_written_after() { [ "$(on 2 cat /run/quorumd-page/index.html.seen | wc -l)" -gt "$1" ]; }
+
+# A host shows its cluster on a page that a timer writes, before and after a take-over; and what it packs for whoever helps has its journal and no key.
+scene_looks() {
+    local name
+    FIRMWARE=20 begun || return 1
+    on 1 systemctl enable --now quorumd-page.timer && on 2 systemctl enable --now quorumd-page.timer || return 1
+    until_true 40 is_page 1 'holds the resource.' || return 1
+    until_true 40 is_page 2 '<h2>The last hour</h2>' || return 1
+    fault 'the node of host 1 is killed'
+    on 1 systemctl kill --kill-whom=main -s KILL quorumd@1.service
+    until_true 30 another_owns 1 || return 1
+    until_true 40 is_page 2 'node 1 was fenced by node 2' || return 1
+    until_true 40 is_page 2 'holds the resource.' || return 1
+    # it is enabled, so it is written after the reset too
+    until_true 60 unit_is 1 active || return 1
+    until_true 40 is_page 1 'hears node 2' || return 1
+    until_true 40 is_written_after "$(on 2 cat /run/quorumd-page/index.html.seen | wc -l)" || return 1
+    [ "$(on 2 systemctl is-failed quorumd-page.service)" != failed ] || { on 2 journalctl -u quorumd-page; return 1; }
+    on 2 quorumd-collect /root/host2.tar.gz && on 2 tar -C /root -xzf /root/host2.tar.gz || return 1
+    on 2 grep -q 'node 2 fenced node 1' /root/host2/history || { on 2 cat /root/host2/README; return 1; }
+    for name in settings/quorumd/corosync.conf status/text journal images/1/list images/1/check records/quorumd/node-2.json versions/packages; do
+        on 2 test -s "/root/host2/$name" || { echo "the archive has no $name"; on 2 cat /root/host2/README; return 1; }
+    done
+    on 2 cmp -s /root/host2/settings/quorumd/corosync.conf /etc/quorumd/corosync.conf || return 1
+    ! on 2 find /root/host2 -name 'key*' | grep . || return 1
+    [ "$(resets 1)" = 1 ] && not_reset 2
 }
 
 # A node that hangs is fed no more: its watchdog resets the host.

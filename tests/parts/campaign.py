@@ -11,7 +11,7 @@ watch.knows(play.world, 2, 0)
 try:
     for line in lines:
         if line.command == "message" and line.values[1] == "test":  # stands for a node that nobody starts at
-            play.world.hosts[line.values[0]].member.look = lambda tick: None
+            play.world.hosts[line.values[0]].member.look = lambda tick, words, holds: None
         elif line.command == "message" and line.values[1] == "clear":  # stands for a reset of a node that is heard
             play.world.event("view 1 9 1,2")
         else:

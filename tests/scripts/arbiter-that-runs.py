@@ -1,7 +1,6 @@
 """An arbiter that runs, asked by polls that are made here: it says no for a lease, then yes to one side at a time; its journal and its status; under a
 key it takes polls of nodes alone, and none twice; what it does not open with, it says in a line."""
 import hashlib
-import json
 import os
 import pathlib
 import socket
@@ -9,11 +8,11 @@ import struct
 import subprocess
 import time
 
-from live import QUORUMD, STARTED, event_of, free_ports, same, try_all, wait_for
+from arbiters import SEATS, Arbiter
+from live import QUORUMD, free_ports, same, try_all, wait_for
 from polls import poll, reply, sealed
 from meaning import SEAL_MEANING, address, fields, node_bytes, tag_of
 
-SEATS = 33
 TIMEOUT = 500
 LIMIT, LEASE = 100, 614  # a fifth of the timeout, and the least with 99 * (lease - 1) >= 101 * (limit + timeout)
 YES, NO = 1, 0
@@ -24,30 +23,6 @@ def conf_of(ids=(1, 2), host="", address=""):
     nodes = "".join("node {\nnodeid: %d\n%s}\n" % (one, address and "ring0_addr: %s\n" % (address % one)) for one in ids)
     net = host and "net {\nhost: %s\n}\n" % host
     return "nodelist {\n%s}\nquorum {\nprovider: corosync_votequorum\ndevice {\nmodel: net\nvotes: 1\ntimeout: %d\n%s}\n}\n" % (nodes, TIMEOUT, net)
-
-
-class Arbiter:
-    """A process of `quorumd arbiter`, with its status file, and what it said."""
-
-    def __init__(self, name, conf, port, before=(), turns=20000):
-        self.folder = pathlib.Path(name)
-        self.folder.mkdir()
-        (self.folder / "conf").write_text(conf)
-        self.status_file = self.folder / "status"
-        words = [QUORUMD, "--status", str(self.status_file), *before, "arbiter", "--port", str(port), "--turns", str(turns)]
-        with open(self.folder / "conf", encoding="ascii") as text, open(self.folder / "out", "w", encoding="ascii") as out, \
-                open(self.folder / "errors", "w", encoding="ascii") as errors:
-            self.process = subprocess.Popen(words, stdin=text, stdout=out, stderr=errors, env={k: v for k, v in os.environ.items() if k != "JOURNAL_STREAM"})
-        STARTED.append(self.process)
-
-    def events(self, name):
-        return [event for event in map(event_of, (self.folder / "errors").read_text().splitlines()) if event and event["event"] == name]
-
-    def status(self):
-        return json.loads(self.status_file.read_text())
-
-    def opened(self):
-        return wait_for("the port is open", lambda: self.events("arbiter-open"))[0]
 
 
 class Asker:

@@ -61,7 +61,7 @@ def try_files():
             write(path, WELL[paths.index(path)])
         ended, text, errors = status(bad, *paths)
         same((ended, text.splitlines()[0], text.splitlines()[-1], errors),
-             (1, "quorumd degraded: bad.json: " + why, "    ? bad.json: " + why, ""), "file %d, %r" % (number, data[:200]))
+             (1, "quorumd degraded: 1 holds; bad.json: " + why, "    ? bad.json: " + why, ""), "file %d, %r" % (number, data[:200]))
         same(status(bad), (3, "quorumd unknown: no node answers\n" + HEAD + "    ? bad.json: %s\n" % why, ""), "file %d alone" % number)
     wanted = {"error": why, "id": None, "path": "bad.json", "stale": True}
     same(json.loads(status("--json", bad)[1]), {"nodes": [wanted], "said": "no node answers", "state": "unknown"}, "JSON")
@@ -77,13 +77,14 @@ def try_files():
 def try_good():
     """Files at the edge of what is taken."""
     path = pathlib.Path("edge.json")
-    data = bytes_of(holder(1))
-    for made in (data + b" " * (65536 - len(data)), json.dumps({**at(now(), holder(1)), "zeta": {"id": [1]}, "format": 1}).encode()):
+    data = bytes_of(holder(1, ids=(1,)))
+    for made in (data + b" " * (65536 - len(data)), json.dumps({**at(now(), holder(1, ids=(1,))), "zeta": {"id": [1]}, "format": 1}).encode()):
         path.write_bytes(made)
         same(status(path)[:1], (0,), "%d bytes" % len(made))
     many = list(range(4294967264, 4294967296))
     write(path, holder(many[-1], ids=tuple(many), votes=4194239, quorum=2097120))
-    same(status(path)[1].splitlines()[0], "quorumd healthy: node 4294967295 holds", "32 nodes of long ids")
+    silent = "".join("; %d tells nothing" % other for other in many[:-1])
+    same(status(path)[1].splitlines()[0], "quorumd degraded: 4294967295 holds" + silent, "32 nodes of long ids")
 
 
 def try_texts():
@@ -93,13 +94,17 @@ def try_texts():
     path = pathlib.Path("a\x1b\n.json")
     write(path, node(1, ids=(1,), why=evil))
     ended, text, _ = status(path)
-    same((ended, text.splitlines()[0]), (2, "quorumd no owner: no owner: 1 " + shown), "why")
+    same((ended, text.splitlines()[0], text.splitlines()[2].endswith("s  " + shown)), (2, "quorumd no owner", True), "why")
     same(len(text.splitlines()), 3, "lines")
     same(json.loads(status("--json", path)[1])["nodes"][0]["why"], evil, "why in JSON")
     same([line for line in status("--json", path)[1].encode() if line > 126 or line < 32 and line != 10], [], "bytes of JSON")
+    write(path, node(1, ids=(1,), name=evil, mail="exit"))
+    same(status(path)[1].splitlines()[0], "quorumd no owner: %s has mail exit" % shown, "name")
+    label = evil.replace("\\", "\\\\").replace('"', '\\"').replace("\n", "\\n")
+    same('{node="1",name="%s"} ' % label in status("--prometheus", path)[1], True, "a label")
     write(path, node(1, ids=(1,), end=evil))
     paths = written([holder(2, ids=(2,))])
-    same(status(path, *paths)[1].splitlines()[0], "quorumd degraded: node 1 ended: " + shown, "end")
+    same(status(path, *paths)[1].splitlines()[0], "quorumd degraded: 2 holds; 1 ended: " + shown, "end")
     path.write_bytes(b"")
     same(status(path)[1].splitlines()[-1], "    ? a\\u{1b}\\n.json: it is no JSON", "path")
 
@@ -111,7 +116,7 @@ def try_image():
     subprocess.run([os.environ["QUORUMD"], "message", "--image", "disk", "--id", "2", "--kind", "off"], stdout=subprocess.PIPE, check=True)
     paths = written([holder(1, ids=(1, 2), votes=2, quorum=1, expected=2)])
     ended, text, errors = status("--image", "disk", *paths)
-    same((ended, text.splitlines()[-2:], errors), (0, ["node 1 slot clean, incarnation 0, mail empty",
+    same((ended, text.splitlines()[-2:], errors), (1, ["node 1 slot clean, incarnation 0, mail empty",
                                                        "node 2 no file; slot clean, incarnation 0, mail off"], ""), "image")
     parsed = json.loads(status("--json", "--image", "disk", *paths)[1])
     same(parsed["image"], json.loads(subprocess.run([QUORUMCTL, "list", "--image", "disk", "--json"], stdout=subprocess.PIPE, check=True).stdout), "image")
@@ -122,7 +127,7 @@ def try_image():
     pathlib.Path("none").write_bytes(b"no image")
     for path, why in (("none", "it is no image"), ("absent", "No such file or directory (os error 2)")):
         ended, text, _ = status("--image", path, *paths)
-        same((ended, text.splitlines()[0]), (1, "quorumd degraded: %s: %s" % (path, why)), "the image %s" % path)
+        same((ended, text.splitlines()[0]), (1, "quorumd degraded: 1 holds; %s: %s; 2 tells nothing" % (path, why)), "the image %s" % path)
 
 
 def try_watch():
@@ -136,13 +141,13 @@ def try_watch():
         while got.count(b"\x1b[H\x1b[J") < 2:
             got += watch.stdout.read1()
         write(path, node(1, ids=(1,), why="clear"))
-        while b"no owner: 1 clear" not in got:
+        while b"quorumd no owner" not in got:
             got += watch.stdout.read1()
         watch.send_signal(signal.SIGINT)
         rest, errors = watch.communicate()
     same((watch.returncode, errors), (-signal.SIGINT, b""), "an interrupt")
     texts = (got + rest).split(b"\x1b[H\x1b[J")
-    same((texts[0], texts[1].splitlines()[0]), (b"", b"quorumd healthy: node 1 holds"), "the first text")
+    same((texts[0], texts[1].splitlines()[0]), (b"", b"quorumd healthy: 1 holds (no group)"), "the first text")
     # standard output that nobody reads any more, and one that is full
     with open("/dev/full", "wb") as full:
         done = subprocess.run([QUORUMCTL, "status", path], stdout=full, stderr=subprocess.PIPE, check=False)

@@ -14,7 +14,6 @@ except ImportError:
     Draft202012Validator = None
 
 WORDS = {0: "healthy", 1: "degraded", 2: "no owner", 3: "unknown"}
-ELSEWHERE = "owner not among the nodes that are looked at"
 OFF = {"phase": "off", "quorate": False, "votes": 0, "view": None, "why": "down"}
 BOOTING = {**OFF, "phase": "booting", "incarnation": None, "mail": "unread", "mail_tick": None}
 ALONE = {"quorate": False, "votes": 1, "view": {"id": 2, "members": [3]}, "why": "not-quorate:1/2"}
@@ -26,6 +25,26 @@ WHYS = ["down", "no-view", "wait-for-all", "not-quorate:1/2", "not-chosen:1", "n
         "unfenced:2:4744", "clear"]
 
 
+def seen(ident):
+    """A peer that is heard, in the file of a program that is told nothing."""
+    return {"hello_tick": -200, "id": ident}
+
+
+def lost(ident):
+    """One that was heard five loops ago."""
+    return {"hello_tick": -5 * 60000, "id": ident}
+
+
+def unseen(ident):
+    return {"hello_tick": None, "id": ident}
+
+
+def teller(ident, **changes):
+    """One that is heard and tells how it is."""
+    told = {"group": 4, "held_ms": 0, "holds": False, "incarnation": 1, "leaving": False, "quorate": True, "tick": -150, **changes}
+    return {**seen(ident), "refused": 0, "told": told}
+
+
 def waiting(**changes):
     """Three nodes that see one another, of which none holds."""
     return [node(1, why="clear", **changes), node(2), node(3)]
@@ -34,53 +53,74 @@ def waiting(**changes):
 # the nodes, the status, and what is said; an age stands as S
 STATES = [
     # one holds
-    ([holder(1), node(2), node(3)], 0, "node 1 holds"),
-    ([node(1, why="held-by:3"), node(2), holder(3)], 0, "node 3 holds"),
-    ([holder(1), node(2)], 0, "node 1 holds"),
-    ([holder(1)], 0, "node 1 holds"),
+    ([holder(1), node(2), node(3)], 0, "1 holds (no group)"),
+    ([node(1, why="held-by:3"), node(2), holder(3)], 0, "3 holds (no group)"),
     # a view says whom its number names
-    ([holder(1, view=NAMING), node(2, view=NAMING), node(3, view=NAMING)], 0, "node 1 holds"),
-    ([node(own, view={**NAMING, "candidate": 0}, why="not-chosen:0") for own in (1, 2, 3)], 2, "no owner: 1 not-chosen:0; 2 not-chosen:0; 3 not-chosen:0"),
-    ([holder(1, ids=(1,), votes=1, quorum=1, expected=1)], 0, "node 1 holds"),
+    ([holder(1, view=NAMING), node(2, view=NAMING), node(3, view=NAMING)], 0, "1 holds (no group)"),
+    ([node(own, view={**NAMING, "candidate": 0}, why="not-chosen:0") for own in (1, 2, 3)], 2, ""),
+    ([holder(1, ids=(1,), votes=1, quorum=1, expected=1)], 0, "1 holds (no group)"),
+    # a group
+    *[([holder(1, group=group), node(2), node(3)], 0, "1 holds" + said) for group, said in ((4, ""), (5, " (unsure)"), (9, " (maintenance)"))],
+    *[([holder(1, group=group), node(2), node(3)], 1, "1 holds; " + said)
+      for group, said in ((None, "nothing looks after its group"), (1, "its group is down"), (2, "its group is looking"), (3, "its group is starting"),
+                          (6, "its group is stopping"), (7, "its group is failed"), (8, "its group is stuck"))],
+    ([holder(1, group=4), node(2, group=7), node(3, group=None)], 0, "1 holds"),
+    # names
+    ([holder(1, name="db1"), node(2, name="db2"), node(3)], 0, "db1 holds (no group)"),
+    ([holder(1), node(2, name="db2", mail="exit"), node(3)], 1, "1 holds; db2 has mail exit"),
     # a message
-    ([holder(1), node(2, mail="test"), node(3)], 0, "node 1 holds"),
-    ([holder(1), node(2, mail="unread", mail_tick=None), node(3)], 0, "node 1 holds"),
-    *[([holder(1), node(2, mail=mail), node(3)], 1, "node 2 has mail %s" % mail)
+    ([holder(1), node(2, mail="test"), node(3)], 0, "1 holds (no group)"),
+    ([holder(1), node(2, mail="unread", mail_tick=None), node(3)], 0, "1 holds (no group)"),
+    *[([holder(1), node(2, mail=mail), node(3)], 1, "1 holds; 2 has mail %s" % mail)
       for mail in ("reset", "off", "exit", "crashdump", "damaged", "failed")],
-    ([holder(1, phase="leaving", mail="exit", why="down"), node(2), node(3)], 1, "node 1 has mail exit"),
-    # votes and views
-    ([holder(1), node(2), node(3, **ALONE)], 1, "node 3 not quorate 1/2"),
-    ([holder(1, quorate=False, votes=1), node(2), node(3)], 1, "node 1 not quorate 1/2"),
-    ([holder(1), node(2, view={"id": 2, "members": [1, 2]}), node(3)], 1, "node 2 does not see 3"),
-    ([holder(1, view={"id": 2, "members": [1]}), node(2), node(3)], 1, "node 1 does not see 2,3"),
-    ([holder(1), node(2), node(3, **BOOTING)], 1, "node 3 not quorate 0/2"),
+    ([holder(1, phase="leaving", mail="exit", why="down"), node(2), node(3)], 1, "1 holds; 1 is leaving; 1 has mail exit"),
+    # votes, and Hellos
+    ([holder(1), node(2), node(3, **ALONE)], 1, "1 holds; 3 not quorate"),
+    ([holder(1, quorate=False, votes=1), node(2), node(3)], 1, "1 holds; 1 not quorate"),
+    ([holder(1), node(2, view={"id": 2, "members": [1, 2]}), node(3)], 0, "1 holds (no group)"),
+    ([holder(1), node(2, peers=[seen(1), unseen(3)]), node(3)], 1, "1 holds; 2 does not see 3"),
+    ([holder(1, peers=[unseen(2), lost(3)]), node(2), node(3)], 1, "1 holds; 1 does not see 2; 1 does not see 3"),
+    ([holder(1, peers=[seen(2), {**lost(3), "name": "db3", "refused": 340}]), node(2), node(3)], 1,
+     "1 holds; 1 does not see db3 (340 packets of it refused: another key or text)"),
+    ([holder(1), node(2), node(3, **BOOTING)], 1, "1 holds; 3 not quorate"),
     ([node(1, phase="dying", quorate=False, votes=1, mail="reset", why="down"), holder(2, **PAIR), node(3, **PAIR)], 1,
-     "node 1 not quorate 1/2; node 1 has mail reset; node 2 does not see 1; node 3 does not see 1"),
+     "2 holds; 1 not quorate; 1 is dying; 1 has mail reset"),
     # nodes of which nothing is known now
-    ([holder(1), node(2), node(3, **OLD)], 1, "node 3 silent for S s"),
-    ([holder(1), node(2), node(3, tick=1000000)], 1, "node 3 is of another boot of this host"),
-    ([holder(1, **PAIR, end="left clean"), holder(2, **PAIR), node(3, **PAIR)], 1,
-     "node 1 ended: left clean; node 2 does not see 1; node 3 does not see 1"),
-    ([holder(1, **OLD), holder(2, **PAIR), node(3, **PAIR)], 1, "node 1 silent for S s; node 2 does not see 1; node 3 does not see 1"),
-    ([holder(1, loop=0, tick=-5000), node(2), node(3)], 1, ELSEWHERE + "; node 1 silent for S s"),
-    ([holder(1, loop=0, tick=-100), node(2), node(3)], 0, "node 1 holds"),
-    # none of these holds, and one that is not among them may
-    ([node(2)], 1, ELSEWHERE),
-    ([node(2), node(3)], 1, ELSEWHERE),
-    ([node(1, why="held-by:3"), node(2)], 1, ELSEWHERE + ", node 1 says held-by:3"),
-    ([holder(1, **OLD), node(2), node(3)], 1, ELSEWHERE + "; node 1 silent for S s"),
-    ([holder(1, end="fault SelfReset reset"), node(2), node(3)], 1, ELSEWHERE + "; node 1 ended: fault SelfReset reset"),
+    ([holder(1), node(2), node(3, **OLD)], 1, "1 holds; 3 silent for S s; 3 tells nothing"),
+    ([holder(1), node(2), node(3, tick=1000000)], 1, "1 holds; 3 is of another boot of this host; 3 tells nothing"),
+    ([holder(1, **PAIR, end="left clean"), holder(2, **PAIR), node(3, **PAIR)], 1, "2 holds; 1 ended: left clean; 1 tells nothing"),
+    ([holder(1, **OLD), holder(2, **PAIR), node(3, **PAIR)], 1, "2 holds; 1 silent for S s; 1 tells nothing"),
+    ([holder(1, loop=0, tick=-5000), node(2), node(3)], 1, "owner not known: 1 tells nothing; 1 silent for S s"),
+    # nodes without a file: they tell nothing, or what they told
+    ([holder(1), node(2)], 1, "1 holds; 3 tells nothing"),
+    ([holder(1)], 1, "1 holds; 2 tells nothing; 3 tells nothing"),
+    ([holder(1, group=4, peers=[teller(2), teller(3)])], 0, "1 holds"),
+    ([node(2, peers=[teller(1, holds=True, held_ms=90000), teller(3)])], 0, "1 holds"),
+    ([node(2, peers=[teller(1, holds=True, held_ms=90000, group=10), teller(3)])], 1, "1 holds; nothing looks after its group"),
+    ([node(2, peers=[teller(1, holds=True, held_ms=90000, group=7), teller(3)])], 1, "1 holds; its group is failed"),
+    ([node(2, peers=[teller(1, leaving=True), teller(3, quorate=False)]), node(3, **ALONE)], 1,
+     "owner not known: 1 tells nothing; 3 not quorate; 1 is leaving"),
+    ([node(2, peers=[teller(1, leaving=True), teller(3, quorate=False)])], 2, "3 not quorate; 1 is leaving"),
+    # what a file says stands before what was told of its node
+    ([node(1), node(2, peers=[teller(1, holds=True, held_ms=90000), seen(3)]), node(3)], 2, ""),
+    # none of these holds, and one that tells nothing may
+    ([node(2)], 1, "owner not known: 1, 3 tells nothing"),
+    ([node(2), node(3)], 1, "owner not known: 1 tells nothing"),
+    ([node(1, why="held-by:3"), node(2)], 1, "owner not known: 3 tells nothing"),
+    ([holder(1, **OLD), node(2), node(3)], 1, "owner not known: 1 tells nothing; 1 silent for S s"),
+    ([holder(1, end="fault SelfReset reset"), node(2), node(3)], 1, "owner not known: 1 tells nothing; 1 ended: fault SelfReset reset"),
+    ([node(3, **ALONE)], 1, "owner not known: 1, 2 tells nothing; 3 not quorate"),
     # no owner
-    (waiting(), 2, "no owner: 1 clear; 2 not-chosen:1; 3 not-chosen:1"),
-    ([holder(1, **OLD), node(2, **PAIR, why="unfenced:1:4744"), node(3, **PAIR)], 2, "no owner: 2 unfenced:1:4744; 3 not-chosen:1"),
-    ([node(3, **ALONE)], 2, "no owner: 3 not-quorate:1/2"),
-    ([node(own, **BOOTING) for own in (1, 2, 3)], 2, "no owner: 1 down; 2 down; 3 down"),
-    *[([node(1, ids=(1, 2), why=why)] + [node(2, ids=(1, 2))], 2, "no owner: 1 %s; 2 not-chosen:1" % why) for why in WHYS],
+    (waiting(), 2, ""),
+    ([holder(1, **OLD), node(2, **PAIR, why="unfenced:1:4744"), node(3, **PAIR)], 2, "1 silent for S s"),
+    ([node(own, **BOOTING) for own in (1, 2, 3)], 2, "1 not quorate; 2 not quorate; 3 not quorate"),
+    *[([node(1, ids=(1, 2), why=why)] + [node(2, ids=(1, 2))], 2, "") for why in WHYS],
     # two hold
-    ([holder(1), holder(2), node(3)], 2, "TWO HOLDERS: 1, 2"),
-    ([holder(3), holder(1), holder(2)], 2, "TWO HOLDERS: 3, 1, 2"),
-    ([holder(1), holder(2, **OLD), node(3)], 1, "node 2 silent for S s"),
-    ([holder(1, phase="dying", quorate=False, votes=1, mail="reset", why="down"), holder(2, **PAIR), node(3, **PAIR)], 2, "TWO HOLDERS: 1, 2"),
+    ([holder(1), holder(2), node(3)], 2, "TWO HOLDERS: 1, 2 (by their own word)"),
+    ([holder(3), holder(1), holder(2)], 2, "TWO HOLDERS: 1, 2, 3 (by their own word)"),
+    ([holder(1), holder(2, **OLD), node(3)], 1, "1 holds; 2 silent for S s; 2 tells nothing"),
+    ([holder(1, phase="dying", quorate=False, votes=1, mail="reset", why="down"), holder(2, **PAIR), node(3, **PAIR)], 2,
+     "TWO HOLDERS: 1, 2 (by their own word)"),
     # nothing is known
     ([holder(1, **OLD), node(2, **OLD)], 3, "no node answers"),
     ([holder(1, tick=1000000)], 3, "no node answers"),
@@ -111,7 +151,8 @@ def schema():
 def try_state(judge, nodes, wanted, said):
     ended, text, errors = status(*written(nodes))
     first = re.sub(r"silent for [0-9.]+ s", "silent for S s", text.splitlines()[0])
-    same((ended, first, errors), (wanted, "quorumd %s: %s" % (WORDS[wanted], said), ""), "the status of %r" % nodes)
+    line = said if said.startswith("TWO HOLDERS") else ": ".join(filter(None, (WORDS[wanted], said)))
+    same((ended, first, errors), (wanted, "quorumd " + line, ""), "the status of %r" % nodes)
     ended, text, _ = status("--json", *written(nodes))
     parsed = json.loads(text)
     same((ended, parsed["state"], len(parsed["nodes"])), (wanted, WORDS[wanted], len(nodes)), "the JSON of %r" % nodes)

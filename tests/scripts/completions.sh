@@ -22,7 +22,7 @@ for program in "$QUORUMD" "$QUORUMCTL"; do
 done
 
 # a script says them of words that it does not take
-scripts=(packaging/quorumd-setup contrib/quorumd-acceptance contrib/quorumd-resource bin/story bin/timeline examples/live/scenario examples/live/storm bench/campaign bench/soak-nodes)
+scripts=(packaging/quorumd-setup contrib/quorumd-acceptance contrib/quorumd-page contrib/quorumd-collect contrib/quorumd-resource bin/story bin/timeline examples/live/scenario examples/live/storm bench/campaign bench/soak-nodes)
 for script in "${scripts[@]}"; do
     status=0
     "$TOP/$script" --no-such-word > said 2>&1 || status=$?
@@ -51,7 +51,7 @@ offers() {
     done
 }
 
-for name in quorumd quorumctl quorumd-setup quorumd-acceptance quorumd-resource story timeline; do
+for name in quorumd quorumctl quorumd-setup quorumd-acceptance quorumd-page quorumd-collect quorumd-resource story timeline; do
     same "$(bash -c 'source "$1" && complete -p "$2"' - "$TOP/completions/quorumd.bash" "$name")" "complete -F _quorumd $name"
 done
 
@@ -66,7 +66,7 @@ offers '' x
 expect 0 "commands $commands\\n" help
 
 # the words before the command, and what follows them
-offers '--links --key --open --seal-meaning --halt --status --leave-file --blank --anew' -
+offers '--links --key --open --seal-meaning --halt --status --leave-file --group --blank --anew' -
 offers '--links --leave-file' --l
 offers "$commands" --open ''
 offers --key --open --k
@@ -163,8 +163,8 @@ while IFS='>' read -r line offered; do
 done << END
 quorumd ;> $commands
 quorumd st;> status
-quorumd --;> --links --key --open --seal-meaning --halt --status --leave-file --blank --anew
-quorumd --links files/other --open --key files/other --;> --key --seal-meaning --halt --status --leave-file --blank --anew
+quorumd --;> --links --key --open --seal-meaning --halt --status --leave-file --group --blank --anew
+quorumd --links files/other --open --key files/other --;> --key --seal-meaning --halt --status --leave-file --group --blank --anew
 quorumd --status files/other status --;> --form
 quorumd audit --images ;> 1 3
 quorumd message --kind off --;> --image --id
@@ -175,6 +175,9 @@ quorumctl status files/;> disk disk.old folder other
 quorumd-setup files/other --key files/other --;> --image --arbiter --id --watchdog --port --create
 quorumd-acceptance --check --;> --anew --yes
 quorumd-acceptance files/;> disk disk.old folder other
+quorumd-page --status files/disk --;> --every --status --journal
+quorumd-page files/;> disk disk.old folder other
+quorumd-collect --since today --;> --until
 quorumd-resource ;> run status check move maintenance
 quorumd-resource maintenance ;> on off
 /usr/share/quorumd/bin/story --;> --keep

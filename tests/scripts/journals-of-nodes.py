@@ -13,6 +13,7 @@ TOP = pathlib.Path(os.environ["TOP"])
 
 from cuts import CutCluster, Relay
 from live import PLAIN, QUORUMD, WARNINGS, Agent, Cluster, Wrong, event_of, same, try_all, wait_for
+from nodeaudit import audited
 from told import said_in, told_of
 
 try:
@@ -44,12 +45,13 @@ class Records:
         return told_of(record, self.ids, node.ident), said_in(journal)
 
     def audited(self, node, lines, more=()):
-        """What `audit` says of the record of a node, which is a run or the beginning of one."""
+        """What `audit` says of the record of a node, which is a run or the beginning of one; a second program of a node says the same."""
         text = (self.folder / "conf").read_text() + "----\n" + "".join(line + "\n" for line in lines)
         words = ["--id", str(node.ident), "--turns", node.words["turns"], *more]
         done = subprocess.run([QUORUMD, "audit", *words], input=text, stdout=subprocess.PIPE, text=True, check=False)
         if done.returncode or not done.stdout.startswith("run "):
             raise Wrong("the record of node %d: %s" % (node.ident, done.stdout))
+        same("the record of node %d by a second program" % node.ident, audited(text, " ".join(map(str, words))), done.stdout.rstrip("\n"))
         return done.stdout
 
 

@@ -55,29 +55,30 @@ def row(lines, ident):
 def life_of_a_cluster():
     cluster = Cluster("status")
     nodes = {ident: started(cluster, ident) for ident in IDS}
-    lines = comes_to(cluster, 0, "quorumd healthy: node 1 holds")
+    lines = comes_to(cluster, 0, "quorumd healthy: 1 holds (no group)")
     same("three nodes", [row(lines, ident)[1:5] for ident in IDS], [["up", "yes", "yes", "3/2"], ["up", "no", "yes", "3/2"], ["up", "no", "yes", "3/2"]])
     same("whys", [row(lines, ident)[-1] for ident in IDS], ["holding", "not-chosen:1", "not-chosen:1"])
-    # one host knows of its own node alone
-    comes_to(cluster, 0, "node 1 holds", ids=(1,))
-    comes_to(cluster, 1, "owner not among the nodes that are looked at", ids=(2,))
+    # by the file of each node alone
+    for ident in IDS:
+        comes_to(cluster, 0, "quorumd healthy: 1 holds (no group)", ids=(ident,))
     cluster.message(2, "test")
     wait_for("node 2 has read test", lambda: row(looked(cluster)[1], 2)[6] == "test")
-    comes_to(cluster, 0, "quorumd healthy: node 1 holds")
+    comes_to(cluster, 0, "quorumd healthy: 1 holds (no group)")
     # the holder stands still: the others miss it, wait, and one of them takes over
     nodes[1].kill(signal.SIGSTOP)
-    comes_to(cluster, 2, "quorumd no owner: no owner: 2 unfenced:1:")
-    lines = comes_to(cluster, 1, "node 1 silent for ", "node 2 does not see 1", "node 3 does not see 1")
+    comes_to(cluster, 2, "quorumd no owner: 2 does not see 1; 3 does not see 1; 1 silent for ")
+    lines = comes_to(cluster, 1, "quorumd degraded: 2 holds; 2 does not see 1; 3 does not see 1; 1 silent for ")
     same("the take-over", [row(lines, ident)[1:3] for ident in IDS], [["silent", "?"], ["up", "yes"], ["up", "no"]])
     nodes[1].kill()
     # the new holder leaves, and the third one alone has no quorum
     cluster.message(2, "exit")
     same("node 2", nodes[2].end(), (0, "left clean\n"))
-    lines = comes_to(cluster, 2, "no owner: 3 not-quorate:1/2")
+    lines = comes_to(cluster, 1, "owner not known: 1, 2 tells nothing; ", "3 not quorate")
+    same("what blocks node 3", row(lines, 3)[-1], "not-quorate:1/2")
     same("a node that left", row(lines, 2)[1:5], ["ended", "?", "no", "0/2"])
     # it boots again
     nodes[2] = started(cluster, 2)
-    lines = comes_to(cluster, 1, "node 1 silent for ", "node 2 does not see 1")
+    lines = comes_to(cluster, 1, "2 holds; 2 does not see 1; 3 does not see 1; 1 silent for ")
     same("the second boot", [row(lines, ident)[1:3] for ident in (2, 3)], [["up", "yes"], ["up", "no"]])
     told = [line.split("  ", 1)[1] for line in quorumctl("history", *(str(path) for path in sorted(cluster.folder.glob("log.*"))))[1]]
     in_order = ["node 1 booted as incarnation 1", "node 1 has a quorum: 3/2", "node 1 holds the resource", "node 2 read test from operator",
@@ -123,7 +124,8 @@ def waits_for_all(cluster):
     settings.write_text(settings.read_text().replace("corosync_votequorum\n", "corosync_votequorum\nwait_for_all: 1\n"))
     node = started(cluster, 1)
     is_seen = is_once_blocked_by(cluster, 1, "no-view")
-    comes_to(cluster, 2, "no owner: 1 wait-for-all", ids=(1,))
+    comes_to(cluster, 1, "owner not known: 2, 3 tells nothing; ", ids=(1,))
+    blocked_by(cluster, 1, "wait-for-all")
     node.kill()
     return is_seen
 
@@ -135,9 +137,9 @@ def held_by_another():
     blocked_by(cluster, 2, "holding")
     nodes.append(started(cluster, 1))
     blocked_by(cluster, 1, "held-by:2")
-    lines = comes_to(cluster, 0, "quorumd healthy: node 2 holds")
+    lines = comes_to(cluster, 0, "quorumd healthy: 2 holds (no group)")
     same("all three", [row(lines, ident)[2] for ident in IDS], ["no", "yes", "no"])
-    comes_to(cluster, 1, "held-by:2", ids=(1,))
+    comes_to(cluster, 0, "quorumd healthy: 2 holds (no group)", ids=(1,))
     for node in nodes:
         node.kill()
 

@@ -31,7 +31,7 @@ cmp root/usr/sbin/quorumctl "$companion"
 for page in root/usr/share/man/man?/*.gz; do
     zcat "$page" | cmp - "$TOP/man/$(basename "$page" .gz)"
 done
-for name in quorumd quorumctl quorumd-setup quorumd-acceptance quorumd-resource story timeline; do
+for name in quorumd quorumctl quorumd-setup quorumd-acceptance quorumd-page quorumd-collect quorumd-resource story timeline; do
     cmp "root/usr/share/bash-completion/completions/$name" "$TOP/completions/quorumd.bash"
     cmp "root/usr/share/fish/vendor_completions.d/$name.fish" "$TOP/completions/quorumd.fish"
 done
@@ -42,11 +42,11 @@ grep -q '^License: Apache-2.0$' "$doc/copyright"
 zcat "$doc/changelog.Debian.gz" | head -n 1 | grep -qF "quorumd ($version) "
 same "$(ls control | xargs)" 'conffiles control md5sums postinst postrm prerm'
 same "$(xargs < control/conffiles)" '/etc/needrestart/conf.d/quorumd.conf /etc/quorumd/agent.env /etc/quorumd/node.env'
-same "$(ls root/lib/systemd/system | xargs)" 'quorumd-agent.socket quorumd-agent@.service quorumd-arbiter.service quorumd-arbiter@.service quorumd-handover.service quorumd-move.service quorumd-renew@.service quorumd-renew@.timer quorumd-resource.service quorumd@.service'
-same "$(ls root/usr/libexec/quorumd | xargs)" 'hand-over node-check node-ended node-images node-leave node-opened quorumd-agent quorumd_acceptance quorumd_resources.py quorumd_supervisor.py'
-same "$(ls root/usr/sbin | xargs)" 'quorumctl quorumd quorumd-acceptance quorumd-resource quorumd-setup'
+same "$(ls root/lib/systemd/system | xargs)" 'quorumd-agent.socket quorumd-agent@.service quorumd-arbiter.service quorumd-arbiter@.service quorumd-handover.service quorumd-move.service quorumd-page.service quorumd-page.timer quorumd-renew@.service quorumd-renew@.timer quorumd-resource.service quorumd@.service'
+same "$(ls root/usr/libexec/quorumd | xargs)" 'hand-over node-check node-ended node-images node-leave node-opened quorumd-agent quorumd_acceptance quorumd_page quorumd_resources.py quorumd_supervisor.py'
+same "$(ls root/usr/sbin | xargs)" 'quorumctl quorumd quorumd-acceptance quorumd-collect quorumd-page quorumd-resource quorumd-setup'
 same "$(ls root/usr/share/man/man1 root/usr/share/man/man8 | grep gz | xargs)" \
-    'scenario.1.gz story.1.gz timeline.1.gz quorumctl.8.gz quorumd-acceptance.8.gz quorumd-agent.8.gz quorumd-resource.8.gz quorumd-setup.8.gz quorumd.8.gz'
+    'scenario.1.gz story.1.gz timeline.1.gz quorumctl.8.gz quorumd-acceptance.8.gz quorumd-agent.8.gz quorumd-collect.8.gz quorumd-page.8.gz quorumd-resource.8.gz quorumd-setup.8.gz quorumd.8.gz'
 # what it depends on is what its scripts call, and the C library of the programs
 same "$(dpkg-deb --field "$package" Depends | sed 's/ (>= [^)]*)//g')" 'libc6, iproute2, python3, systemd'
 cmp root/usr/share/quorumd/halt.conf "$TOP/packaging/halt.conf"
@@ -64,6 +64,14 @@ done
 # the acceptance finds its modules and its probe where the package has them
 (cd root/usr/sbin && sed 's|/usr/libexec|../libexec|' quorumd-acceptance | python3 -B - --help) | grep -q '^usage: quorumd-acceptance '
 [ -f root/usr/libexec/quorumd/quorumd_acceptance/probe.sh ]
+# so does the page its own, and it writes one of a host without a node; whoever is asked for help gets an archive
+(cd root/usr/sbin && sed 's|/usr/libexec|../libexec|' quorumd-page | python3 -B - "$OLDPWD/page.html") 2> said
+grep -q '<h1>unknown</h1>' page.html
+cmp root/usr/share/quorumd/contrib/quorumd.rules.yml "$TOP/contrib/quorumd.rules.yml"
+PATH=$PWD/root/usr/sbin:$PATH QUORUMD_ETC=$PWD/root/etc QUORUMD_RUN=$PWD/none root/usr/sbin/quorumd-collect host.tar.gz > said 2> errors
+same "$(cat said)" host.tar.gz
+tar -tzf host.tar.gz > said
+grep -qx host/settings/quorumd/node.env said
 # systemd takes the units; what they call is where they say
 if command -v systemd-analyze > /dev/null; then
     same "$(systemd-analyze verify --man=no root/lib/systemd/system/quorumd* 2>&1 | grep -v ': Command /usr/[^ ]* is not executable' || true)" ''

@@ -107,7 +107,7 @@ class MixedCluster(Cluster):
         """Waits until all three nodes have one view, and that one of them holds."""
         def is_so():
             files = [self.folder / ("status.%d" % ident) for ident in IDS]
-            return all(file.exists() for file in files) and answer(QUORUMCTL, "status", *files)[1].startswith("quorumd healthy: node %d holds\n" % holder)
+            return all(file.exists() for file in files) and answer(QUORUMCTL, "status", *files)[1].startswith("quorumd healthy: %d holds (no group)\n" % holder)
         wait_for("node %d holds and all are well" % holder, is_so)
 
 

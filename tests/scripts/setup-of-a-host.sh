@@ -100,7 +100,7 @@ same "$(written)" './quorumd/corosync.conf ./quorumd/key ./quorumd/node-2.env ./
 cmp three.conf etc/quorumd/corosync.conf
 edge='--links /etc/quorumd/corosync.conf --key /etc/quorumd/key'
 same "$(grep -v -e '^#' -e '^$' etc/quorumd/node-2.env | xargs)" \
-    "EDGE=$edge COMMAND=node IMAGE=$disk WATCHDOG=/dev/watchdog RESOURCE=unix:/run/quorumd/agent.sock PORT=7400 LEAVE=970000000 OPTIONS="
+    "EDGE=$edge COMMAND=node IMAGE=$disk WATCHDOG=/dev/watchdog RESOURCE=unix:/run/quorumd/agent.sock GROUP=--group /run/quorumd/group.word PORT=7400 LEAVE=970000000 OPTIONS="
 same "$(grep -v '^#' 'etc/systemd/system/quorumd@2.service.d/setup.conf' | xargs)" "[Unit] RequiresMountsFor=$PWD"
 same "$("$QUORUMCTL" list --image disk | wc -l)" 3
 "$QUORUMD" message --image disk --id 2 --kind test > sent

@@ -115,12 +115,13 @@ says '^  node 2 is up, and holds the resource$'
 three 'cut-in 2' 'run 8000' 'heal' 'run 8000'
 never 'reset to node 3$'
 never 'reset to node 1$'
-# one cable: the side of the least node has the vote of the third one, so the other node is reset, once, and it alone; whoever holds
+# one cable: the side of the holder has the vote of the third one, so the other node is reset, once, and it alone
 three 'cut-link 1 2' 'run 20000' 'up 2' 'run 20000'
 same "$(holders trace)" 'holders=- holders=1'
 same "$(grep -oE 'node [0-9] writes a reset to node [0-9]$' account | sort | uniq -c | xargs)" '1 node 1 writes a reset to node 2'
+# the holder and a node of lesser id: the service stays where it is
 three 'leave 1' 'run 3000' 'up 1' 'run 3000' 'cut-link 2 1' 'run 20000'
-same "$(holders trace)" 'holders=- holders=1 holders=- holders=2 holders=- holders=1'
+same "$(holders trace)" 'holders=- holders=1 holders=- holders=2'
 # one direction: node 2 does not hear node 1, or node 1 not node 2
 for cut in '2 1' '1 2'; do
     three "cut-link-in $cut" 'run 20000'
@@ -146,6 +147,25 @@ never 'reset'
 three 'slow-stop 1 10' 'leave 1' 'run 9' 'broken-disk 1' 'run 2000'
 says 'node 1 has left, and its slot is dirty$'
 never 'node 2 STARTS'
+
+# what hosts say of their nodes: a standby, a node that is not fit and one that pulls move the resource without a reset, and where it may be nowhere
+# nobody starts; a pull ends once it is answered, and a node that is barred no more takes nothing back
+three 'standby 1 on' 'run 6000' 'standby 1 off' 'run 6000'
+same "$(holders trace)" 'holders=- holders=1 holders=- holders=2'
+never 'reset'
+three 'fit 1 no' 'run 6000' 'fit 1 yes' 'run 6000'
+same "$(holders trace)" 'holders=- holders=1 holders=- holders=2'
+never 'reset'
+three 'pull 3' 'run 6000' 'pull 1' 'run 6000'
+same "$(holders trace)" 'holders=- holders=1 holders=- holders=3 holders=- holders=1'
+never 'reset'
+three 'standby 2 on' 'standby 3 on' 'standby 1 on' 'run 8000'
+same "$(holders trace)" 'holders=- holders=1 holders=-'
+says 'node 1 does not start: its view lets nobody start \(not-chosen:0\)$'
+three 'standby 2 on' 'standby 3 on' 'fit 1 no' 'run 8000'
+same "$(holders trace)" 'holders=- holders=1'
+three 'standby 2 on' 'kill 1' 'run 22000'
+same "$(holders trace)" 'holders=- holders=1 holders=- holders=3'
 
 # three images, of which one may be lost; and beside an arbiter, which says yes to one side of a cut
 printf '%s\n' 'nodes 1 2 3' 'images 3' 'lose-image 2' 'up 1 2 3' 'run 4000' 'message 1 exit' 'run 4000' 'good-image 2' 'up 1' 'run 3000' > story.txt
@@ -228,6 +248,10 @@ faulty 'line 2: kill 2: node 2 does not run' 'kill 2'
 faulty 'line 3: leave 1: node 1 is not up' 'up 1' 'leave 1'
 faulty 'line 3: wake 1: node 1 does not hang' 'up 1' 'wake 1'
 faulty 'line 4: message 1 clear: a deadly message is in the mailbox of node 1, which runs: it is not taken back' 'up 1' 'message 1 off' 'message 1 clear'
+faulty 'line 2: maybe: neither on nor off' 'standby 1 maybe'
+faulty 'line 2: off: neither yes nor no' 'fit 1 off'
+faulty 'line 2: pull: 1 words after it, not 0' 'pull'
+faulty 'line 2: pull 1: node 1 does not run' 'pull 1'
 faulty 'line 2: timing: there are five times' 'timing 5000'
 faulty 'line 2: 0: no time, which is 1 to 3600000 milliseconds' 'timing 5000 10000 1000 2000 0'
 faulty 'line 3: timing: no such command' 'up 1' 'timing 5000 10000 1000 2000 1000'

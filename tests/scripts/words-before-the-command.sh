@@ -68,6 +68,9 @@ for path in '' "$(head -c 4091 /dev/zero | tr '\0' x)"; do
 done
 says '--leave-file: given twice' --leave-file a --leave-file b node
 says '--leave-file stands before a node alone' --leave-file a help
+says '--group: given twice' --group a --group b node
+says '--group stands before a node alone' --group a help
+says '--group stands before a node alone' --group a arbiter
 says '--seal-meaning: given twice' --seal-meaning --links conf --seal-meaning node
 for command in help create 'audit --id 1 --turns 1' ''; do
     says '--seal-meaning stands before a node or an arbiter alone' --links conf --key one --seal-meaning $command
@@ -83,9 +86,9 @@ says '--open beside --key' --open --key one help
 says '--open beside --key' --key one --open help
 says '--links wants --key or --open' --links conf help
 says '--links wants --key or --open' --halt file --links conf
-for word in --links --key --halt --status --leave-file; do
+for word in --links --key --halt --status --leave-file --group; do
     says "$word: its value is missing" "$word"
-    for next in --links --key --open --seal-meaning --halt --status --leave-file --blank --anew; do
+    for next in --links --key --open --seal-meaning --halt --status --leave-file --group --blank --anew; do
         says "$word: its value is missing" "$word" "$next" conf help
     done
 done

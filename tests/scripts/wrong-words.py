@@ -29,6 +29,8 @@ ROWS = {
     "completions/make": "- 2 help 2 0 2 2 2",
     "contrib/quorumd-acceptance": "2 2 help 2 2 text text 2",
     "contrib/quorumd-agent": "2 2 2 2 2 2 2 2",
+    "contrib/quorumd-collect": "- 2 help 2 2 2 2 2",
+    "contrib/quorumd-page": "2 2 help 0 2 text text 2",
     "contrib/hand-over": "2 2 2 2 2 2 2 2",
     "contrib/quorumd-resource": "2 2 help 2 2 2 2 2",
     "examples/live/audit": FOLDER,
@@ -66,7 +68,7 @@ ROWS = {
 }
 # no words of an operator: what starts a program or the gate, what dpkg or a machine starts
 LEFT_OUT = {"bin/quorumd", "bin/quorumctl", "bench/qn_soak_nodes", "bench/qn_tests", ".ci/run", ".ci/daily", ".ci/tools", "debian/postinst", "debian/postrm", "debian/prerm", "debian/rules",
-            "debian/tests/first-answer", "debian/tests/take-over", "tests/hosts/ask_arbiter", "tests/hosts/database",
+            "debian/tests/first-answer", "debian/tests/looks", "debian/tests/take-over", "tests/hosts/ask_arbiter", "tests/hosts/database",
             "tests/machines/init"}
 
 

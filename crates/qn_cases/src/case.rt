@@ -90,7 +90,6 @@ pub fn node_words(id: NodeId, turns: u64, leave: Option<u64>, clean: bool) -> No
         port: 5000,
         turns,
         leave,
-        polls: None,
         clean,
     }
 }

@@ -7,16 +7,10 @@ use Rattle.qn_model.specs.Lines.{Ending, Ended, ReadFailed}
 use Rattle.qn_model.specs.declared.configuration.Settings.{Settings}
 use Rattle.qn_commands.specs.declared.fault.Fault.{Fault}
 use Rattle.qn_commands.specs.declared.fault.Fault.TheVariants.{BadConf, NoMemory, ReadFault}
-use Rattle.qn_commands.specs.InputSettings.{IsWanted, Judges, input_settings, input_text, judged_text, settings_in, text_at}
+use Rattle.qn_commands.specs.InputSettings.{IsWanted, Judges, ReadsWhole, input_settings, input_text, judged_text}
+use Rattle.qn_commands.specs.SettingsLaws.{short_text}
 use Rattle.qn_commands.specs.Seen.{Input, ReadFails}
 use Rattle.qn_commands.specs.Reads.{Tells, Anyway, AtEnd, AtFailure}
-
-not_long : (n : ℕ) → n ≤ 1048576 → nat_lt 1048576 n ≡ false
-not_long n short = grind arith
-
-short_text : (ending : Ending) (text : List ℕ) → length text ≤ 1048576 → input_text ending text ≡ text_at ending text
-unfolding input_text
-short_text ending text short = rw (not_long (length text) short) refl
 
 long_text : (ending : Ending) (text more : List ℕ) → 1048576 < length text → input_text ending (text ++ more) ≡ Err (BadConf conf.TooLong)
 unfolding input_text
@@ -41,6 +35,14 @@ module _ (text : List ℕ) (first before after : Input) (takes : first.left ≡ 
     takes = takes ∙ ap (prepend_known text) (none ∙ prepend_known-nil after.left);
     bounded = omega arith;
     judged = inr (AtEnd (subst IsAtEnd (none ∙ prepend_known-nil after.left) at_end) (short_text Ended text short));
+  }
+
+  -- and all of it was read
+  pub text_whole : before.left ≡ prepend_known [] after.left → IsAtEnd before.left → ReadsWhole first after text
+  text_whole none at_end = record {
+    takes = takes ∙ ap (prepend_known text) (none ∙ prepend_known-nil after.left);
+    at_end = subst IsAtEnd (none ∙ prepend_known-nil after.left) at_end;
+    bounded = short;
   }
 
   module _ (piece : List ℕ) (more : before.left ≡ prepend_known piece after.left) (fits : length piece ≤ 4096) where
@@ -68,30 +70,6 @@ module _ (text : List ℕ) (first before after : Input) (takes : first.left ≡ 
     -- the text goes on
     pub text_goes_on : (whole : List ℕ) → whole ≡ text ++ piece → first.left ≡ prepend_known whole after.left
     text_goes_on whole is = taken_more ∙ ap (λ t. prepend_known t after.left) (sym is)
-
--- the settings of a text that was read whole
-pub judged_ok : (before after : Input) (text given : List ℕ) (result : Result Settings Fault) → given ≡ text
-    → Judges input_text before after (Ok text) → IsWanted result ⊎ (settings_in given ≡ result) → Judges input_settings before after result
-judged_ok before after text given result same judges (inl wanted) = record { read = judges.read; takes = judges.takes; bounded = judges.bounded; judged = inl wanted }
-judged_ok before after text given result same judges (inr is) = record {
-  read = judges.read;
-  takes = judges.takes;
-  bounded = judges.bounded;
-  judged = tells_ok judges.judged;
-}
-  where
-    of_text : settings_in text ≡ result
-    of_text = ap settings_in (sym same) ∙ is
-
-    tells_map : {read : List ℕ} {at_end fails : Type 0} → Tells input_text read at_end fails (λ answer. answer ≡ Ok text) → Tells input_settings read at_end fails (λ answer. answer ≡ result)
-    tells_map (Anyway always) = Anyway (λ ending more. ap judged_text (always ending more) ∙ of_text)
-    tells_map (AtEnd ended holds) = AtEnd ended (ap judged_text holds ∙ of_text)
-    tells_map (AtFailure fails holds) = AtFailure fails (ap judged_text holds ∙ of_text)
-
-    tells_ok : {read : List ℕ} {at_end fails : Type 0} → IsWanted (Ok text) ⊎ Tells input_text read at_end fails (λ answer. answer ≡ Ok text) → IsWanted result ⊎ Tells input_settings read at_end fails (λ answer. answer ≡ result)
-    tells_ok (inl (inl wanted)) = cc
-    tells_ok (inl (inr wanted)) = cc
-    tells_ok (inr tells) = inr (tells_map tells)
 
 -- a text that was not read whole
 pub judged_err : (before after : Input) (fault : Fault) → Judges input_text before after (Err fault)

@@ -50,6 +50,17 @@ pub record Judges {A : Type 0} (judged_of : Ending → List ℕ → Result A Fau
   pub bounded : length read ≤ 1048576 + 4096
   pub judged : IsWanted result ⊎ Tells judged_of read (IsAtEnd after.left) (ReadFails before after) (λ answer. answer ≡ result)
 
+-- the input was read to its end, and these are its bytes, not too many for a settings text
+pub record ReadsWhole (before after : Input) (text : List ℕ) : Type 0 where
+  pub takes : before.left ≡ prepend_known text after.left
+  pub at_end : IsAtEnd after.left
+  pub bounded : length text ≤ 1048576
+
+-- the same, and they are a text of these settings
+pub record ReadsText (before after : Input) (text : List ℕ) (settings : Settings) : Type 0 where
+  pub whole : ReadsWhole before after text
+  pub good : settings_in text ≡ Ok settings
+
 -- the work that follows from the settings, or the end at their fault
 abbrev pub settings_work : (Settings → Work) → Result Settings Fault → Work
 settings_work work_of (Ok settings) = work_of settings

@@ -1,17 +1,42 @@
--- What follows of the settings of an input that were refused: the status, and where memory was wanted.
-use Rattle.std.proofs.Common.{◌≡◌, ◌≢◌, ◌⊎◌, inl, inr, ℕ, List, [], ◌++◌, Option, None, Some, Result, Ok, Err, IfOk, IfSome, refl, sym, ap, ◌∙◌, subst, arith}
+-- What follows of the settings of an input: how it was judged, and of refused ones the status, and where memory was wanted.
+use Rattle.std.proofs.Common.{◌≡◌, ◌≢◌, ◌≤◌, ◌⊎◌, inl, inr, ℕ, false, length, nat_lt, List, [], ◌++◌, Option, None, Some, Result, Ok, Err, IfOk, IfSome, refl, sym, ap, ◌∙◌, subst, arith}
 use Rattle.std.specs.Io.KnownBytes.{IsAtEnd}
 use Rattle.qn_conf.specs.declared.faults.ConfFault.{ConfFault}
 use Rattle.qn_conf.specs.declared.faults.ConfFault.TheVariants as conf
 use Rattle.qn_model.specs.declared.configuration.Settings.{Settings}
-use Rattle.qn_model.specs.Lines.{Ended}
+use Rattle.qn_model.specs.Lines.{Ending, Ended}
 use Rattle.qn_commands.specs.declared.fault.Fault.{Fault}
 use Rattle.qn_commands.specs.declared.fault.Fault.TheVariants as fault
 use Rattle.qn_commands.specs.Faults.{conf_status, status_of}
-use Rattle.qn_commands.specs.InputSettings.{IsWanted, Judges, input_settings}
-use Rattle.qn_commands.specs.Reads.{Tells}
+use Rattle.qn_commands.specs.InputSettings.{IsWanted, Judges, ReadsWhole, input_settings, input_text, judged_text, settings_in, text_at}
+use Rattle.qn_commands.specs.Reads.{AtEnd, Tells}
 use Rattle.qn_commands.specs.RunLaws.{known_whole, tells_all}
 use Rattle.qn_commands.specs.Seen.{Input, ReadFails}
+
+-- ## A text that was read whole
+
+pub short_text : (ending : Ending) (text : List ℕ) → length text ≤ 1048576 → input_text ending text ≡ text_at ending text
+unfolding input_text
+short_text ending text short =
+    let not_long : nat_lt 1048576 (length text) ≡ false = grind arith in
+    rw not_long refl
+
+-- the input was judged by what its text gives, or there was no memory for it
+pub judged_whole : {before after : Input} {text : List ℕ} (result : Result Settings Fault) → ReadsWhole before after text
+    → IsWanted result ⊎ (settings_in text ≡ result) → Judges input_settings before after result
+judged_whole {before} {after} {text} result reads gives = record {
+  read = text;
+  takes = reads.takes;
+  bounded = let short = reads.bounded in omega arith;
+  judged = of_gives gives;
+}
+  where
+    of_gives : IsWanted result ⊎ (settings_in text ≡ result)
+        → IsWanted result ⊎ Tells input_settings text (IsAtEnd after.left) (ReadFails before after) (λ answer. answer ≡ result)
+    of_gives (inl wanted) = inl wanted
+    of_gives (inr is) = inr (AtEnd reads.at_end (ap judged_text (short_text Ended text reads.bounded) ∙ is))
+
+-- ## Settings that were refused
 
 -- the status of a fault of the settings
 abbrev pub IsSettingsStatus : ℕ → Type 0

@@ -1,5 +1,5 @@
 //! The commands that play no schedule and run no node, and what every command shares: how it ends (`Status`, `Fault`, `say`, `refuse`),
-//! and the reading of the settings (`read_settings`).
+//! and the reading of the settings (`read_settings`, and with the text `read_good_text`).
 //!
 //! Promises: each command's function meets the record of the command in specs/Commands, which says what was read, called
 //! and written, which statuses there are, and that each fault has its cause.
@@ -24,5 +24,5 @@ pub use commands::migrate::migrate;
 pub use ending::{refuse, say};
 pub use fault::{Fault, LeaseTimes};
 pub use path::Path;
-pub use settings_text::read_settings;
+pub use settings_text::{GoodText, SettingsText, read_good_text, read_settings};
 pub use status::Status;

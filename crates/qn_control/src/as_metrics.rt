@@ -147,6 +147,10 @@ fn add_value(text: &mut Text, metric: Metric, cluster: &ClusterStatus, node: &Sh
     text.add("quorumd_");
     text.add(metric.name());
     text.add_number("{node=\"", u64::from(node.id.0));
+    if let Some(name) = &node.name {
+        text.add("\",name=\"");
+        text.add_label(name.as_str());
+    }
     text.add("\"} ");
     match value {
         Value::Count(count) => text.add_number("", count),

@@ -94,6 +94,11 @@ fn add_missed(text: &mut Text, node: &Shown) {
         };
         if is_missed {
             text.add_number("      peer ", u64::from(peer.id.0));
+            if let Some(name) = &peer.name {
+                text.add(" (");
+                text.add_foreign(name.as_str());
+                text.add(")");
+            }
             match silence {
                 Some(silence) => {
                     text.add(" last heard ");

@@ -5,8 +5,8 @@ use qn_model::Phase;
 use qn_names::phase_name;
 use qn_shown::{Group, Peer, Shown};
 use qn_verdict::{
-    Verdict, Voice, is_contested, is_heard, is_held, is_held_twice, is_live, is_quiet, judge,
-    members, told_voice, voice_of,
+    Verdict, Voice, has_voice, is_contested, is_heard, is_held, is_held_twice, is_live, is_quiet,
+    judge, members, told_voice, voice_of,
 };
 use std::alloc::{AllocError, Global};
 
@@ -64,9 +64,13 @@ impl ClusterStatus {
                 words.add_hand_over(voices.as_slice());
             }
             Verdict::Degraded if is_held(self.now, self.nodes.as_slice()) => {
-                words.add_holder(voices.as_slice());
+                let silent = self.silent(alloc, Silent::Heard)?;
+                words.add_holder(voices.as_slice(), silent.as_slice());
             }
-            Verdict::Degraded => words.add_owner_unknown(voices.as_slice()),
+            Verdict::Degraded => {
+                let silent = self.silent(alloc, Silent::MayHold)?;
+                words.add_owner_unknown(voices.as_slice(), silent.as_slice());
+            }
             Verdict::NoOwner => words.add_wrongs(voices.as_slice()),
         }
         words.text.finish()
@@ -101,6 +105,35 @@ impl ClusterStatus {
         for peer in node.peers.as_slice() {
             if let Some(voice) = told_voice(self.now, self.nodes.as_slice(), node, peer) {
                 add_voice(voices, voice)?;
+            }
+        }
+        Ok(())
+    }
+
+    /// The nodes of that kind that have no file here and told nothing to the node that knows them, in ascending id.
+    fn silent(&self, alloc: Global, kind: Silent) -> Result<Vec<NodeId>, AllocError> {
+        let mut ids = Vec::new(alloc);
+        for node in self.nodes.as_slice() {
+            if is_live(self.now, node) {
+                self.add_silent(&mut ids, node, kind)?;
+            }
+        }
+        ids.as_mut_slice().sort_unstable_by_key(|id| id.0);
+        Ok(ids)
+    }
+
+    /// Adds those that a node knows, where they are not there.
+    fn add_silent(
+        &self,
+        ids: &mut Vec<NodeId>,
+        node: &Shown,
+        kind: Silent,
+    ) -> Result<(), AllocError> {
+        for peer in node.peers.as_slice() {
+            let has_voice = has_voice(self.now, self.nodes.as_slice(), node, peer.id);
+            let is_there = ids.as_slice().iter().any(|id| id.0 == peer.id.0);
+            if !has_voice && !is_there && kind.is_of(self.now, node, peer) {
+                ids.push(peer.id)?;
             }
         }
         Ok(())
@@ -142,6 +175,25 @@ fn add_voice(voices: &mut Vec<Voice>, voice: Voice) -> Result<(), AllocError> {
     }
     voices.push(voice)?;
     Ok(())
+}
+
+/// Which nodes without a voice are told.
+#[derive(Clone, Copy)]
+enum Silent {
+    /// Those that may hold: the members of the view of a quorate node, of another one all that it knows.
+    MayHold,
+    /// Those that a node hears, and which tell nothing.
+    Heard,
+}
+
+impl Silent {
+    /// Whether that peer of a node is one of these.
+    fn is_of(self, now: u64, node: &Shown, peer: &Peer) -> bool {
+        match self {
+            Silent::MayHold => !node.answer.quorate || is_member(node, peer.id),
+            Silent::Heard => is_heard(now, node, peer),
+        }
+    }
 }
 
 /// What is said of a cluster, part by part.
@@ -217,8 +269,8 @@ impl<'a> Words<'a> {
         }
     }
 
-    /// One node holds, and something is wrong.
-    fn add_holder(&mut self, voices: &[Voice]) {
+    /// One node holds, and something is wrong; these are heard, and tell nothing.
+    fn add_holder(&mut self, voices: &[Voice], silent: &[NodeId]) {
         let Some(voice) = voices.iter().find(|voice| voice.holds) else {
             return;
         };
@@ -233,44 +285,26 @@ impl<'a> Words<'a> {
             self.text.add(voice.group.name());
         }
         self.add_wrongs(voices);
-        self.add_silent(voices);
+        for id in silent {
+            self.begin_node(*id);
+            self.text.add(" tells nothing");
+        }
     }
 
     /// No node holds by its word, and these say nothing.
-    fn add_owner_unknown(&mut self, voices: &[Voice]) {
+    fn add_owner_unknown(&mut self, voices: &[Voice], silent: &[NodeId]) {
         self.begin();
         self.text.add("owner not known");
-        let mut separator = ": ";
-        for node in self.cluster.nodes.as_slice() {
-            if is_live(self.cluster.now, node) {
-                separator = self.add_missing(voices, node, separator);
-            }
+        self.separator = ": ";
+        for id in silent {
+            self.begin_node(*id);
+            self.separator = ", ";
         }
-        self.text.add(if separator == ", " {
-            " tells nothing"
-        } else {
-            ""
-        });
+        if !silent.is_empty() {
+            self.text.add(" tells nothing");
+        }
+        self.separator = "; ";
         self.add_wrongs(voices);
-    }
-
-    /// The nodes that may hold and have no voice: those of the view of a quorate node, of another one all.
-    fn add_missing(
-        &mut self,
-        voices: &[Voice],
-        node: &Shown,
-        separator: &'static str,
-    ) -> &'static str {
-        let mut separator = separator;
-        for peer in node.peers.as_slice() {
-            let is_candidate = !node.answer.quorate || is_member(node, peer.id);
-            if is_candidate && !voices.iter().any(|voice| voice.id.0 == peer.id.0) {
-                self.text.add(separator);
-                self.add_node(peer.id);
-                separator = ", ";
-            }
-        }
-        separator
     }
 
     /// What is wrong, whoever holds.
@@ -348,26 +382,6 @@ impl<'a> Words<'a> {
                 self.text.add(" silent for ");
                 self.text.add_seconds(self.cluster.age(node));
                 self.text.add(" s");
-            }
-        }
-    }
-
-    /// The nodes that are heard, and tell nothing.
-    fn add_silent(&mut self, voices: &[Voice]) {
-        let cluster = self.cluster;
-        for node in cluster.nodes.as_slice() {
-            if is_live(cluster.now, node) {
-                self.add_silent_peers(voices, node);
-            }
-        }
-    }
-
-    fn add_silent_peers(&mut self, voices: &[Voice], node: &Shown) {
-        for peer in node.peers.as_slice() {
-            let has_voice = voices.iter().any(|voice| voice.id.0 == peer.id.0);
-            if !has_voice && is_heard(self.cluster.now, node, peer) {
-                self.begin_node(peer.id);
-                self.text.add(" tells nothing");
             }
         }
     }

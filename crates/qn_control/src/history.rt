@@ -108,15 +108,28 @@ fn sentence_of(line: &JournalLine<'_>) -> Option<&'static str> {
 /// What may be told of an event; the words in braces are those of its line. The end of a node that halted is told by its halt.
 fn sentences_of(line: &JournalLine<'_>) -> &'static [&'static str] {
     match line.event {
-        "claimed" => &["node {node} booted as incarnation {incarnation}"],
+        "claimed" => &[
+            "node {node} ({name}) booted as incarnation {incarnation}",
+            "node {node} booted as incarnation {incarnation}",
+        ],
         "quorum-won" => &["node {node} has a quorum: {votes}/{quorum}"],
         "quorum-lost" => &["node {node} lost its quorum: {votes}/{quorum}"],
-        "peer-seen" => &["node {node} hears node {id}"],
-        "peer-lost" => &["node {node} hears node {id} no more"],
+        "peer-seen" => &[
+            "node {node} hears node {id} ({name})",
+            "node {node} hears node {id}",
+        ],
+        "peer-lost" => &[
+            "node {node} hears node {id} ({name}) no more",
+            "node {node} hears node {id} no more",
+        ],
         "fence-written" => &[
+            "node {node} fenced node {of} ({name}): reset written, ok={ok}, msgwait {msgwait} ms",
             "node {node} fenced node {of}: reset written, ok={ok}, msgwait {msgwait} ms",
         ],
-        "licence" => &["node {node} read node {of} as cleanly stopped"],
+        "licence" => &[
+            "node {node} read node {of} ({name}) as cleanly stopped",
+            "node {node} read node {of} as cleanly stopped",
+        ],
         "hold-won" => &["node {node} holds the resource"],
         "hold-lost" => &["node {node} holds it no more"],
         "start" if has_failed(line) => &["node {node} failed to start the resource"],

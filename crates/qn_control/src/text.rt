@@ -116,6 +116,18 @@ impl Text {
         self.is_short = self.is_short || !added;
     }
 
+    /// Adds a text as the value of a label of Prometheus: the quote and the backslash behind a backslash, and the end of a line as `\n`.
+    pub(crate) fn add_label(&mut self, part: &str) {
+        for character in part.chars() {
+            match character {
+                '"' => self.add("\\\""),
+                '\\' => self.add("\\\\"),
+                '\n' => self.add("\\n"),
+                character => self.add_value(&character),
+            }
+        }
+    }
+
     /// Adds a text of a file of others: what is no printable ASCII character is escaped, and so is a backslash.
     pub(crate) fn add_foreign(&mut self, part: &str) {
         for c in part.chars() {

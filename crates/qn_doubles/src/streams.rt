@@ -12,7 +12,7 @@ struct Failing {
 }
 
 impl Failing {
-    ghost use Rattle.std.specs.Prelude.{◌≤◌, OnErr};
+    ghost use Rattle.std.specs.Prelude.{◌≡◌, ◌≤◌, false, OnErr, OnOk};
     ghost use Rattle.qn_base.specs.Faults.{HasRisen};
 
     /// That call fails.
@@ -26,6 +26,7 @@ impl Failing {
 
     /// A call is made: it fails by its number, or where that is so.
     fn tried(&mut self, fails: bool) -> Result<(), Failed>
+        ensures refused { OnOk result (fails ≡ false) }
         ensures never_falls { self.old.faults ≤ self.new.faults }
         ensures cause { OnErr result (HasRisen self.old.faults self.new.faults) }
     {
@@ -88,7 +89,8 @@ impl Sink for MemSink {
 
     fn write(&mut self, from: &[u8]) -> Result<usize, Failed> {
         let count = from.len().min(self.room.saturating_sub(self.bytes.len()));
-        self.failing.tried(count == 0 && !from.is_empty())?;
+        let is_full = count < from.len().min(1);
+        self.failing.tried(is_full)?;
         let _ = self.bytes.extend_from_slice(from.split_at(count).0);
         Ok(count)
     }

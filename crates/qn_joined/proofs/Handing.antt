@@ -20,13 +20,15 @@ use Rattle.qn_model.specs.Moments.{Running, handed, has_feed, is_gone, logged, t
 use Rattle.qn_model.specs.NodeOutputs.{newest_outs, with_entry}
 use Rattle.qn_model.specs.Phases.{phase}
 use Rattle.qn_model.specs.World.{given_up}
-use Rattle.qn_member.specs.Maker.{Maker, view_at}
+use Rattle.qn_member.specs.Naming.{NamingMaker}
+use Rattle.qn_member.specs.NamingViews.{answer_at}
 use Rattle.qn_live.specs.declared.place.Choice.{Choice}
 use Rattle.qn_live.specs.declared.place.Choice.TheVariants as choice
-use Rattle.qn_live.specs.Choosing.{heard, looked, looking, view_or_tick}
+use Rattle.qn_live.specs.Choosing.{looked, looking, own_of, told, view_or_tick}
 use Rattle.qn_live.specs.Performing.{end_after}
 use Rattle.qn_live.specs.Running.{RunState}
-use Rattle.qn_live.specs.Runs.{taken}
+use Rattle.qn_live.specs.declared.words.Own.{Own}
+use Rattle.qn_live.specs.Runs.{looked_at, taken}
 use Rattle.qn_joined.specs.Joints.{Host, after_effect, returned}
 use Rattle.qn_safety.specs.NodeLogs.{IsNodeLog, is_end, is_disk_last}
 use Rattle.qn_joined.specs.Owning.{is_no_stop}
@@ -82,11 +84,17 @@ view_plain None = refl
 view_plain (Some view) = refl
 
 -- what is chosen is an answer where its entry is one
-looked_plain : (tick : ℕ) (chosen : Choice) (maker : Option Maker) → is_answer_in chosen ≡ false → is_answer (looked tick chosen maker).1 ≡ false
-looked_plain tick (choice.Whole entry) maker is = is
-looked_plain tick (choice.Open p) None is = refl
-looked_plain tick (choice.Open p) (Some m) is = view_plain (view_at tick (heard tick p m))
-looked_plain tick (choice.Answer reply) maker is = refl
+looked_plain : (tick : ℕ) (own : Own) (chosen : Choice) (maker : Option NamingMaker) → is_answer_in chosen ≡ false → is_answer (looked tick own chosen maker).1 ≡ false
+looked_plain tick own (choice.Whole entry) maker is = is
+looked_plain tick own (choice.Open p) None is = refl
+looked_plain tick own (choice.Open p) (Some m) is = view_plain (answer_at tick (told tick own p m))
+looked_plain tick own (choice.Answer reply) maker is = refl
+
+looked_answer : (tick : ℕ) (own : Own) (poller : Option Poller) (chosen : Choice) (maker : Option NamingMaker) → is_answer_in chosen ≡ true
+    → is_answer (looked tick own (answered_at tick poller chosen) maker).1 ≡ true
+looked_answer tick own poller (choice.Whole entry) maker is = is
+looked_answer tick own poller (choice.Open p) maker is = absurd cc
+looked_answer tick own poller (choice.Answer reply) maker is = absurd cc
 
 device_plain : (answer : Option Bool) → is_answer_in (option_map_or (λ agrees. choice.Whole (what.Device agrees)) answer (choice.Open None)) ≡ false
 device_plain None = refl
@@ -97,25 +105,22 @@ answered_plain tick poller (choice.Whole entry) is = is
 answered_plain tick poller (choice.Open p) is = refl
 answered_plain tick poller (choice.Answer reply) is = device_plain (option_and_then (answer_taken tick reply) poller)
 
-pub plain_looked : (tick : ℕ) (poller : Option Poller) (chosen : Choice) (maker : Option Maker) → is_answer_in chosen ≡ false
-    → is_answer (looked tick (answered_at tick poller chosen) maker).1 ≡ false
-plain_looked tick poller chosen maker is = looked_plain tick (answered_at tick poller chosen) maker (answered_plain tick poller chosen is)
+pub plain_looked : (tick : ℕ) (chosen : Choice × RunState) → is_answer_in chosen.0 ≡ false → is_answer (looked_at tick (answered tick chosen)).1 ≡ false
+plain_looked tick chosen is =
+    looked_plain tick (own_of (looking tick (answered tick chosen))) (answered tick chosen).0 chosen.1.maker (answered_plain tick chosen.1.poller chosen.0 is)
 
-pub answer_looked : (tick : ℕ) (poller : Option Poller) (chosen : Choice) (maker : Option Maker) → is_answer_in chosen ≡ true
-    → is_answer (looked tick (answered_at tick poller chosen) maker).1 ≡ true
-answer_looked tick poller (choice.Whole entry) maker is = is
-answer_looked tick poller (choice.Open p) maker is = absurd cc
-answer_looked tick poller (choice.Answer reply) maker is = absurd cc
+pub answer_looked : (tick : ℕ) (chosen : Choice × RunState) → is_answer_in chosen.0 ≡ true → is_answer (looked_at tick (answered tick chosen)).1 ≡ true
+answer_looked tick chosen is = looked_answer tick (own_of (looking tick (answered tick chosen))) chosen.1.poller chosen.0 chosen.1.maker is
 
 module _ (s : Settings) (rank : ℕ) (n : Running) (took took' : Option What) (left left' : List DiskOp) (all' : List Sent) (host : Host) (chosen : Choice × RunState) (time tick : ℕ)
     (is : IsReady s rank host chosen n took left) (on : host.on ≡ true) (asked : host.asked ≡ true) (clock : tick ≡ tick_of host.clock)
-    (logs : IsNodeLog s (handed s rank time (looked tick (answered tick chosen).0 chosen.1.maker).1 n).log)
-    (spends : Spends s rank (looked tick (answered tick chosen).0 chosen.1.maker).1 host took took' left left')
-    (plain_in : is_answer_in chosen.0 ≡ false → is_answer (looked tick (answered tick chosen).0 chosen.1.maker).1 ≡ false)
-    (answer_in : is_answer_in chosen.0 ≡ true → is_answer (looked tick (answered tick chosen).0 chosen.1.maker).1 ≡ true)
-    (said : AllSaid all' (newest_outs (handed s rank time (looked tick (answered tick chosen).0 chosen.1.maker).1 n).log)) where
-  abbrev found : Option Maker × What
-  found = looked tick (answered tick chosen).0 chosen.1.maker
+    (logs : IsNodeLog s (handed s rank time (looked_at tick (answered tick chosen)).1 n).log)
+    (spends : Spends s rank (looked_at tick (answered tick chosen)).1 host took took' left left')
+    (plain_in : is_answer_in chosen.0 ≡ false → is_answer (looked_at tick (answered tick chosen)).1 ≡ false)
+    (answer_in : is_answer_in chosen.0 ≡ true → is_answer (looked_at tick (answered tick chosen)).1 ≡ true)
+    (said : AllSaid all' (newest_outs (handed s rank time (looked_at tick (answered tick chosen)).1 n).log)) where
+  abbrev found : Option NamingMaker × What
+  found = looked_at tick (answered tick chosen)
 
   abbrev st' : RunState
   st' = taken s rank (looking tick (answered tick chosen)) tick found
@@ -291,10 +296,10 @@ module _ (s : Settings) (rank : ℕ) (n : Running) (took took' : Option What) (l
           subst (λ x. IsEnding (acts_at s rank host.leave host.stand.turn host.stand.more found.1 x x st').spot) (sym last.1)
           (refl, refl, end_ends found.1 last.0 last.2)
 
-  pub handed_at : IsNode s rank (returned s rank (call.Now tick) time (at host (Looking chosen))) (handed s rank time (looked tick (answered tick chosen).0 chosen.1.maker).1 n) took' left' all'
+  pub handed_at : IsNode s rank (returned s rank (call.Now tick) time (at host (Looking chosen))) (handed s rank time (looked_at tick (answered tick chosen)).1 n) took' left' all'
   handed_at = subst (λ h. IsNode s rank h n' took' left' all') (sym is_acted) acted_node
 
   -- the operation that is ahead then came out of the entry
-  pub handed_ahead : disk_ahead (returned s rank (call.Now tick) time (at host (Looking chosen))).stand.spot ≡ disk_of (newest_outs (handed s rank time (looked tick (answered tick chosen).0 chosen.1.maker).1 n).log)
+  pub handed_ahead : disk_ahead (returned s rank (call.Now tick) time (at host (Looking chosen))).stand.spot ≡ disk_of (newest_outs (handed s rank time (looked_at tick (answered tick chosen)).1 n).log)
   handed_ahead =
       ap (λ h. disk_ahead h.stand.spot) is_acted ∙ acts_ahead s rank host.leave host.stand.turn host.stand.more found.1 outs outs st' ∙ ap (λ l. disk_of (newest_outs l)) (sym same_log)

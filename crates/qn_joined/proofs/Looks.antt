@@ -18,11 +18,14 @@ use Rattle.qn_model.specs.NodeOutputs.{newest_outs}
 use Rattle.qn_model.specs.Phases.{phase}
 use Rattle.qn_model.specs.Steps.{run, step}
 use Rattle.qn_model.specs.World.{World, given_up, node_at}
-use Rattle.qn_member.specs.Maker.{Maker, view_at}
+use Rattle.qn_member.specs.Naming.{NamingMaker}
+use Rattle.qn_member.specs.NamingViews.{answer_at}
 use Rattle.qn_live.specs.declared.place.Choice.{Choice}
 use Rattle.qn_live.specs.declared.place.Choice.TheVariants as choice
-use Rattle.qn_live.specs.Choosing.{heard, looked, view_or_tick}
+use Rattle.qn_live.specs.Choosing.{looked, looking, own_of, told, view_or_tick}
 use Rattle.qn_live.specs.Running.{RunState}
+use Rattle.qn_live.specs.Runs.{looked_at}
+use Rattle.qn_live.specs.declared.words.Own.{Own}
 use Rattle.qn_joined.specs.Joints.{Host, returned}
 use Rattle.qn_joined.specs.Moves.{LooksInWorld}
 use Rattle.qn_safety.specs.NodeLogs.{IsNodeLog, LogsHold}
@@ -65,12 +68,16 @@ view_comes : (rank : ℕ) (log : List Line) (took : Option What) (all : List Sen
 view_comes rank log took all None = tt
 view_comes rank log took all (Some view) = tt
 
-pub looked_comes : (rank : ℕ) (log : List Line) (took : Option What) (all : List Sent) (tick : ℕ) (chosen : Choice) (maker : Option Maker)
-    → ComesAs rank log took all chosen → ComesIn rank log took all (looked tick chosen maker).1
-looked_comes rank log took all tick (choice.Whole entry) maker is = is
-looked_comes rank log took all tick (choice.Answer reply) maker is = tt
-looked_comes rank log took all tick (choice.Open p) None is = tt
-looked_comes rank log took all tick (choice.Open p) (Some m) is = view_comes rank log took all (view_at tick (heard tick p m))
+choice_comes : (rank : ℕ) (log : List Line) (took : Option What) (all : List Sent) (tick : ℕ) (own : Own) (chosen : Choice) (maker : Option NamingMaker)
+    → ComesAs rank log took all chosen → ComesIn rank log took all (looked tick own chosen maker).1
+choice_comes rank log took all tick own (choice.Whole entry) maker is = is
+choice_comes rank log took all tick own (choice.Answer reply) maker is = tt
+choice_comes rank log took all tick own (choice.Open p) None is = tt
+choice_comes rank log took all tick own (choice.Open p) (Some m) is = view_comes rank log took all (answer_at tick (told tick own p m))
+
+pub looked_comes : (rank : ℕ) (log : List Line) (took : Option What) (all : List Sent) (tick : ℕ) (chosen : Choice × RunState)
+    → ComesAs rank log took all chosen.0 → ComesIn rank log took all (looked_at tick chosen).1
+looked_comes rank log took all tick chosen is = choice_comes rank log took all tick (own_of (looking tick chosen)) chosen.0 chosen.1.maker is
 
 device_comes : (rank : ℕ) (log : List Line) (took : Option What) (all : List Sent) (answer : Option Bool)
     → ComesAs rank log took all (option_map_or (λ agrees. choice.Whole (what.Device agrees)) answer (choice.Open None))
@@ -124,7 +131,7 @@ looks_in_world s t logs rank events host chosen tick below may is on asked clock
           subst (λ x. IsNode s rank (returned s rank (call.Now tick) (time w.moments) (at host (Looking chosen))) x (w'.took rank) (w'.left rank) (packets s w'.moments)) (sym node_is)
           (handed_at s rank n (w.took rank) (w'.took rank) (w.left rank) (w'.left rank) (packets s w'.moments) host chosen (time w.moments) tick (ready_of host chosen is on lives) on asked clock
           (subst (λ x. IsNodeLog s x.log) node_is (logs (h.of ∷ events) rank (h.ranked, h.allowed, may) below))
-          h.spends (plain_looked tick chosen.1.poller chosen.0 chosen.1.maker) (answer_looked tick chosen.1.poller chosen.0 chosen.1.maker)
+          h.spends (plain_looked tick chosen) (answer_looked tick chosen)
           (subst (λ x. AllSaid (packets s w'.moments) (newest_outs x.log)) (node_adds s rank h.given w.moments ∙ h.same)
           (subst (λ m. AllSaid (packets s m) (newest_outs (node s rank (Adds rank h.given ∷ w.moments)).log)) (sym h.moments) (said_newest s rank h.given w.moments))));
     }
@@ -139,12 +146,12 @@ looks_in_world s t logs rank events host chosen tick below may is on asked clock
     lives = lives_of host chosen is on asked
 
     entry : What
-    entry = (looked tick (answered tick chosen).0 chosen.1.maker).1
+    entry = (looked_at tick (answered tick chosen)).1
 
     comes : ComesIn rank n.log (w.took rank) (packets s w.moments) entry
     comes =
         subst (λ l. ComesIn rank l (w.took rank) (packets s w.moments) entry) (sym (is.log lives))
-        (looked_comes rank chosen.1.log (w.took rank) (packets s w.moments) tick (answered tick chosen).0 chosen.1.maker
+        (looked_comes rank chosen.1.log (w.took rank) (packets s w.moments) tick (answered tick chosen)
         (answered_comes rank chosen.1.log (w.took rank) (packets s w.moments) tick chosen.1.poller chosen.0 (is.backed lives).2))
 
     h : Hands s t rank entry host w

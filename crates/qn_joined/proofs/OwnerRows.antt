@@ -11,11 +11,10 @@ use Rattle.qn_model.specs.lemmas.TwoNodes.{two_nodes, two_nodes_valid}
 use Rattle.qn_model.specs.Sectors.{anonymous, header_bytes, mail_bytes, mail_place, slot_bytes, slot_place}
 use Rattle.qn_wire.specs.Packets.{packet_bytes}
 use Rattle.qn_wire.specs.Reading.{packet_of}
-use Rattle.qn_live.specs.Greetings.{no_standing}
 use Rattle.qn_live.specs.Performing.{reset_by}
 use Rattle.qn_joined.specs.Joints.{AllMayHappen, Happening, Begins, Ends, Feeds, Lands, LandsLate, Looks, Operates, Passes, Returns, is_deadly_mail, joint_after, runs_at}
 use Rattle.qn_joined.specs.Theorem.{OwnerIsReset}
-use Rattle.qn_joined.proofs.Rows.{created, fits, joint_steps, new_image, of_two, short_times, ◌▸◌}
+use Rattle.qn_joined.proofs.Rows.{begins_alone, created, fits, holds_and_keeps, joint_steps, knows_names, leads_alone, named_view, new_image, of_two, short_times, ◌▸◌}
 
 abbrev May : List Happening → Type 0
 May happenings = AllMayHappen two_nodes short_times new_image happenings
@@ -64,8 +63,7 @@ abbrev part_up_0 : List Happening
 part_up_0 =
     Returns 0 (call.Feed true)
     ∷ Returns 0 (call.Now 0)
-    ∷ Returns 0 (call.Send (record { 0 = 1 }) (packet_bytes (packet.Heard (record { 0 = 0 }) (record { hears = record { 0 = 1 }; follows = None; able = false }) no_standing)) true)
-    ∷ Returns 0 (call.Send (record { 0 = 1 }) (packet_bytes (packet.Hello (record { 0 = 0 }))) true)
+    ∷ Returns 0 (call.Send (record { 0 = 1 }) (packet_bytes (packet.Heard (record { 0 = 0 }) (begins_alone 0) knows_names)) true)
     ∷ Returns 0 (call.Read (mail_place 0) (mail_bytes (anonymous message.Empty)) true)
     ∷ Lands 0
     ∷ Returns 0 (call.Feed true)
@@ -82,7 +80,6 @@ unfolding joint_steps packet_of
 up_0_may =
     record { on = refl; asked = refl; waits = refl; answer = tt; spells = refl } ▸
     record { on = refl; asked = refl; waits = refl; answer = refl; spells = refl } ▸
-    record { on = refl; asked = refl; waits = refl; answer = tt; spells = refl } ▸
     record { on = refl; asked = refl; waits = refl; answer = tt; spells = refl } ▸
     record { on = refl; asked = refl; waits = refl; answer = λ ok. refl; spells = refl } ▸
     (refl, refl, refl) ▸
@@ -136,8 +133,7 @@ abbrev part_up_1 : List Happening
 part_up_1 =
     Returns 1 (call.Feed true)
     ∷ Returns 1 (call.Now 0)
-    ∷ Returns 1 (call.Send (record { 0 = 0 }) (packet_bytes (packet.Heard (record { 0 = 1 }) (record { hears = record { 0 = 2 }; follows = None; able = false }) no_standing)) true)
-    ∷ Returns 1 (call.Send (record { 0 = 0 }) (packet_bytes (packet.Hello (record { 0 = 1 }))) true)
+    ∷ Returns 1 (call.Send (record { 0 = 0 }) (packet_bytes (packet.Heard (record { 0 = 1 }) (begins_alone 1) knows_names)) true)
     ∷ Returns 1 (call.Read (mail_place 1) (mail_bytes (anonymous message.Empty)) true)
     ∷ Lands 1
     ∷ Returns 1 (call.Feed true)
@@ -155,7 +151,6 @@ up_1_may =
     record { on = refl; asked = refl; waits = refl; answer = tt; spells = refl } ▸
     record { on = refl; asked = refl; waits = refl; answer = refl; spells = refl } ▸
     record { on = refl; asked = refl; waits = refl; answer = tt; spells = refl } ▸
-    record { on = refl; asked = refl; waits = refl; answer = tt; spells = refl } ▸
     record { on = refl; asked = refl; waits = refl; answer = λ ok. refl; spells = refl } ▸
     (refl, refl, refl) ▸
     record { on = refl; asked = refl; waits = refl; answer = tt; spells = refl } ▸
@@ -168,20 +163,19 @@ abbrev part_sees_both : List Happening
 part_sees_both =
     Returns 0 (call.Feed true)
     ∷ Returns 0 (call.Now 1)
-    ∷ Returns 0 (call.Send (record { 0 = 1 }) (packet_bytes (packet.Announce (record { 0 = 0 }) (record { id = 1; members = record { 0 = 3 } }))) true)
-    ∷ Returns 0 (call.Send (record { 0 = 1 }) (packet_bytes (packet.Heard (record { 0 = 0 }) (record { hears = record { 0 = 3 }; follows = Some (record { 0 = 0 }); able = true }) no_standing)) true)
-    ∷ Returns 0 (call.Send (record { 0 = 1 }) (packet_bytes (packet.Hello (record { 0 = 0 }))) true)
+    ∷ Returns 0 (call.Send (record { 0 = 1 }) (packet_bytes (packet.Announce (record { 0 = 0 }) (named_view 0 1 3))) true)
+    ∷ Returns 0 (call.Send (record { 0 = 1 }) (packet_bytes (packet.Heard (record { 0 = 0 }) (record { hears = record { 0 = 3 }; follows = Some (record { 0 = 0 }); able = true }) knows_names)) true)
     ∷ Returns 0 (call.Read (mail_place 0) (mail_bytes (anonymous message.Empty)) true)
     ∷ Lands 0
-    ∷ Returns 0 (call.Send (record { 0 = 1 }) (packet_bytes (packet.Ask (record { from = record { 0 = 0 }; to = record { 0 = 1 }; incarnation = 1; install = 1; view = (record { id = 1; members = record { 0 = 3 } }) }))) true)
+    ∷ Returns 0 (call.Send (record { 0 = 1 }) (packet_bytes (packet.Ask (record { from = record { 0 = 0 }; to = record { 0 = 1 }; incarnation = 1; install = 1; view = (named_view 0 1 3) }))) true)
     ∷ Returns 0 (call.Now 1)
     ∷ Returns 0 (call.Receive received.Nothing)
     ∷ Passes 1 []
-    ∷ Returns 0 (call.Send (record { 0 = 1 }) (packet_bytes (packet.Ask (record { from = record { 0 = 0 }; to = record { 0 = 1 }; incarnation = 1; install = 1; view = (record { id = 1; members = record { 0 = 3 } }) }))) true)
+    ∷ Returns 0 (call.Send (record { 0 = 1 }) (packet_bytes (packet.Ask (record { from = record { 0 = 0 }; to = record { 0 = 1 }; incarnation = 1; install = 1; view = (named_view 0 1 3) }))) true)
     ∷ Returns 0 (call.Now 0)
-    ∷ Returns 0 (call.Receive (received.Packet (packet_bytes (packet.Hello (record { 0 = 1 })))))
+    ∷ Returns 0 (call.Receive (received.Packet (packet_bytes (packet.Heard (record { 0 = 1 }) (begins_alone 1) knows_names))))
     ∷ Returns 1 (call.Now 0)
-    ∷ Returns 1 (call.Receive (received.Packet (packet_bytes (packet.Hello (record { 0 = 0 })))))
+    ∷ Returns 1 (call.Receive (received.Packet (packet_bytes (packet.Heard (record { 0 = 0 }) (begins_alone 0) knows_names))))
     ∷ []
 
 abbrev sees_both : List Happening
@@ -192,7 +186,6 @@ unfolding joint_steps packet_of
 sees_both_may =
     record { on = refl; asked = refl; waits = refl; answer = tt; spells = refl } ▸
     record { on = refl; asked = refl; waits = refl; answer = refl; spells = refl } ▸
-    record { on = refl; asked = refl; waits = refl; answer = tt; spells = refl } ▸
     record { on = refl; asked = refl; waits = refl; answer = tt; spells = refl } ▸
     record { on = refl; asked = refl; waits = refl; answer = tt; spells = refl } ▸
     record { on = refl; asked = refl; waits = refl; answer = λ ok. refl; spells = refl } ▸
@@ -212,19 +205,18 @@ abbrev part_takes_view : List Happening
 part_takes_view =
     Returns 0 (call.Start true)
     ∷ Returns 0 (call.Now 1)
-    ∷ Returns 0 (call.Receive (received.Packet (packet_bytes (packet.Tell (record { from = record { 0 = 1 }; to = record { 0 = 0 }; incarnation = 1; install = 1; view = (record { id = 1; members = record { 0 = 3 } }); holds = false; released = true })))))
-    ∷ Returns 1 (call.Send (record { 0 = 0 }) (packet_bytes (packet.Tell (record { from = record { 0 = 1 }; to = record { 0 = 0 }; incarnation = 1; install = 1; view = (record { id = 1; members = record { 0 = 3 } }); holds = false; released = true }))) true)
+    ∷ Returns 0 (call.Receive (received.Packet (packet_bytes (packet.Tell (record { from = record { 0 = 1 }; to = record { 0 = 0 }; incarnation = 1; install = 1; view = (named_view 0 1 3); holds = false; released = true })))))
+    ∷ Returns 1 (call.Send (record { 0 = 0 }) (packet_bytes (packet.Tell (record { from = record { 0 = 1 }; to = record { 0 = 0 }; incarnation = 1; install = 1; view = (named_view 0 1 3); holds = false; released = true }))) true)
     ∷ Returns 1 (call.Now 1)
-    ∷ Returns 1 (call.Receive (received.Packet (packet_bytes (packet.Ask (record { from = record { 0 = 0 }; to = record { 0 = 1 }; incarnation = 1; install = 1; view = (record { id = 1; members = record { 0 = 3 } }) })))))
+    ∷ Returns 1 (call.Receive (received.Packet (packet_bytes (packet.Ask (record { from = record { 0 = 0 }; to = record { 0 = 1 }; incarnation = 1; install = 1; view = (named_view 0 1 3) })))))
     ∷ Returns 1 (call.Feed true)
     ∷ Returns 1 (call.Now 1)
-    ∷ Returns 1 (call.Send (record { 0 = 0 }) (packet_bytes (packet.Heard (record { 0 = 1 }) (record { hears = record { 0 = 3 }; follows = Some (record { 0 = 0 }); able = true }) no_standing)) true)
-    ∷ Returns 1 (call.Send (record { 0 = 0 }) (packet_bytes (packet.Hello (record { 0 = 1 }))) true)
+    ∷ Returns 1 (call.Send (record { 0 = 0 }) (packet_bytes (packet.Heard (record { 0 = 1 }) (record { hears = record { 0 = 3 }; follows = Some (record { 0 = 0 }); able = true }) knows_names)) true)
     ∷ Returns 1 (call.Read (mail_place 1) (mail_bytes (anonymous message.Empty)) true)
     ∷ Lands 1
-    ∷ Returns 1 (call.Send (record { 0 = 0 }) (packet_bytes (packet.Ask (record { from = record { 0 = 1 }; to = record { 0 = 0 }; incarnation = 1; install = 1; view = (record { id = 1; members = record { 0 = 3 } }) }))) true)
+    ∷ Returns 1 (call.Send (record { 0 = 0 }) (packet_bytes (packet.Ask (record { from = record { 0 = 1 }; to = record { 0 = 0 }; incarnation = 1; install = 1; view = (named_view 0 1 3) }))) true)
     ∷ Returns 1 (call.Now 1)
-    ∷ Returns 1 (call.Receive (received.Packet (packet_bytes (packet.Announce (record { 0 = 0 }) (record { id = 1; members = record { 0 = 3 } })))))
+    ∷ Returns 1 (call.Receive (received.Packet (packet_bytes (packet.Announce (record { 0 = 0 }) (named_view 0 1 3)))))
     ∷ []
 
 abbrev takes_view : List Happening
@@ -242,7 +234,6 @@ takes_view_may =
     record { on = refl; asked = refl; waits = refl; answer = tt; spells = refl } ▸
     record { on = refl; asked = refl; waits = refl; answer = refl; spells = refl } ▸
     record { on = refl; asked = refl; waits = refl; answer = tt; spells = refl } ▸
-    record { on = refl; asked = refl; waits = refl; answer = tt; spells = refl } ▸
     record { on = refl; asked = refl; waits = refl; answer = λ ok. refl; spells = refl } ▸
     (refl, refl, refl) ▸
     record { on = refl; asked = refl; waits = refl; answer = tt; spells = refl } ▸
@@ -254,9 +245,8 @@ abbrev part_misses : List Happening
 part_misses =
     Returns 1 (call.Feed true)
     ∷ Returns 1 (call.Now 6)
-    ∷ Returns 1 (call.Send (record { 0 = 0 }) (packet_bytes (packet.Announce (record { 0 = 1 }) (record { id = 2; members = record { 0 = 2 } }))) true)
-    ∷ Returns 1 (call.Send (record { 0 = 0 }) (packet_bytes (packet.Heard (record { 0 = 1 }) (record { hears = record { 0 = 2 }; follows = Some (record { 0 = 1 }); able = true }) no_standing)) true)
-    ∷ Returns 1 (call.Send (record { 0 = 0 }) (packet_bytes (packet.Hello (record { 0 = 1 }))) true)
+    ∷ Returns 1 (call.Send (record { 0 = 0 }) (packet_bytes (packet.Announce (record { 0 = 1 }) (named_view 1 2 2))) true)
+    ∷ Returns 1 (call.Send (record { 0 = 0 }) (packet_bytes (packet.Heard (record { 0 = 1 }) (leads_alone 1) knows_names)) true)
     ∷ Returns 1 (call.Read (mail_place 1) (mail_bytes (anonymous message.Test)) true)
     ∷ Lands 1
     ∷ Returns 1 (call.Now 6)
@@ -264,11 +254,10 @@ part_misses =
     ∷ Passes 1 []
     ∷ Returns 1 (call.Feed true)
     ∷ Returns 1 (call.Now 5)
-    ∷ Returns 1 (call.Send (record { 0 = 0 }) (packet_bytes (packet.Heard (record { 0 = 1 }) (record { hears = record { 0 = 2 }; follows = Some (record { 0 = 1 }); able = true }) no_standing)) true)
-    ∷ Returns 1 (call.Send (record { 0 = 0 }) (packet_bytes (packet.Hello (record { 0 = 1 }))) true)
+    ∷ Returns 1 (call.Send (record { 0 = 0 }) (packet_bytes (packet.Heard (record { 0 = 1 }) (leads_alone 1) knows_names)) true)
     ∷ Returns 1 (call.Read (mail_place 1) (mail_bytes (anonymous message.Test)) true)
     ∷ Lands 1
-    ∷ Returns 1 (call.Send (record { 0 = 0 }) (packet_bytes (packet.Ask (record { from = record { 0 = 1 }; to = record { 0 = 0 }; incarnation = 1; install = 1; view = (record { id = 1; members = record { 0 = 3 } }) }))) true)
+    ∷ Returns 1 (call.Send (record { 0 = 0 }) (packet_bytes (packet.Ask (record { from = record { 0 = 1 }; to = record { 0 = 0 }; incarnation = 1; install = 1; view = (named_view 0 1 3) }))) true)
     ∷ Returns 1 (call.Now 5)
     ∷ Returns 1 (call.Receive received.Nothing)
     ∷ Passes 4 []
@@ -285,7 +274,6 @@ misses_may =
     record { on = refl; asked = refl; waits = refl; answer = refl; spells = refl } ▸
     record { on = refl; asked = refl; waits = refl; answer = tt; spells = refl } ▸
     record { on = refl; asked = refl; waits = refl; answer = tt; spells = refl } ▸
-    record { on = refl; asked = refl; waits = refl; answer = tt; spells = refl } ▸
     record { on = refl; asked = refl; waits = refl; answer = λ ok. refl; spells = refl } ▸
     (refl, refl, refl) ▸
     record { on = refl; asked = refl; waits = refl; answer = refl; spells = refl } ▸
@@ -293,7 +281,6 @@ misses_may =
     (of_two _ refl refl, refl) ▸
     record { on = refl; asked = refl; waits = refl; answer = tt; spells = refl } ▸
     record { on = refl; asked = refl; waits = refl; answer = refl; spells = refl } ▸
-    record { on = refl; asked = refl; waits = refl; answer = tt; spells = refl } ▸
     record { on = refl; asked = refl; waits = refl; answer = tt; spells = refl } ▸
     record { on = refl; asked = refl; waits = refl; answer = λ ok. refl; spells = refl } ▸
     (refl, refl, refl) ▸
@@ -343,9 +330,8 @@ part_dies =
     Ends 0
     ∷ Returns 0 (call.Halt 2)
     ∷ Returns 0 (call.Now 6)
-    ∷ Returns 0 (call.Send (record { 0 = 1 }) (packet_bytes (packet.Announce (record { 0 = 0 }) (record { id = 1; members = record { 0 = 3 } }))) true)
-    ∷ Returns 0 (call.Send (record { 0 = 1 }) (packet_bytes (packet.Heard (record { 0 = 0 }) (record { hears = record { 0 = 1 }; follows = Some (record { 0 = 0 }); able = true }) no_standing)) true)
-    ∷ Returns 0 (call.Send (record { 0 = 1 }) (packet_bytes (packet.Hello (record { 0 = 0 }))) true)
+    ∷ Returns 0 (call.Send (record { 0 = 1 }) (packet_bytes (packet.Announce (record { 0 = 0 }) (named_view 0 1 3))) true)
+    ∷ Returns 0 (call.Send (record { 0 = 1 }) (packet_bytes (packet.Heard (record { 0 = 0 }) (leads_alone 0) holds_and_keeps)) true)
     ∷ Returns 0 (call.Read (mail_place 0) (mail_bytes (reset_by two_nodes 1 1)) true)
     ∷ Lands 0
     ∷ Returns 0 (call.Now 6)
@@ -363,7 +349,6 @@ dies_may =
     record { on = refl; asked = refl; waits = refl; answer = refl; spells = refl } ▸
     record { on = refl; asked = refl; waits = refl; answer = tt; spells = refl } ▸
     record { on = refl; asked = refl; waits = refl; answer = tt; spells = refl } ▸
-    record { on = refl; asked = refl; waits = refl; answer = tt; spells = refl } ▸
     record { on = refl; asked = refl; waits = refl; answer = λ ok. refl; spells = refl } ▸
     (refl, refl, refl) ▸
     record { on = refl; asked = refl; waits = refl; answer = refl; spells = refl } ▸
@@ -378,9 +363,8 @@ part_waits =
     ∷ Feeds 1
     ∷ Returns 1 (call.Feed true)
     ∷ Returns 1 (call.Now 996)
-    ∷ Returns 1 (call.Send (record { 0 = 0 }) (packet_bytes (packet.Announce (record { 0 = 1 }) (record { id = 2; members = record { 0 = 2 } }))) true)
-    ∷ Returns 1 (call.Send (record { 0 = 0 }) (packet_bytes (packet.Heard (record { 0 = 1 }) (record { hears = record { 0 = 2 }; follows = Some (record { 0 = 1 }); able = true }) no_standing)) true)
-    ∷ Returns 1 (call.Send (record { 0 = 0 }) (packet_bytes (packet.Hello (record { 0 = 1 }))) true)
+    ∷ Returns 1 (call.Send (record { 0 = 0 }) (packet_bytes (packet.Announce (record { 0 = 1 }) (named_view 1 2 2))) true)
+    ∷ Returns 1 (call.Send (record { 0 = 0 }) (packet_bytes (packet.Heard (record { 0 = 1 }) (leads_alone 1) knows_names)) true)
     ∷ Returns 1 (call.Read (mail_place 1) (mail_bytes (anonymous message.Test)) true)
     ∷ Lands 1
     ∷ Returns 1 (call.Now 996)
@@ -401,7 +385,6 @@ waits_may =
     (refl, refl) ▸
     record { on = refl; asked = refl; waits = refl; answer = tt; spells = refl } ▸
     record { on = refl; asked = refl; waits = refl; answer = refl; spells = refl } ▸
-    record { on = refl; asked = refl; waits = refl; answer = tt; spells = refl } ▸
     record { on = refl; asked = refl; waits = refl; answer = tt; spells = refl } ▸
     record { on = refl; asked = refl; waits = refl; answer = tt; spells = refl } ▸
     record { on = refl; asked = refl; waits = refl; answer = λ ok. refl; spells = refl } ▸

@@ -11,15 +11,17 @@ use Rattle.qn_model.specs.Log.{Line, has_start}
 use Rattle.qn_model.specs.Holding.{holds, is_stopped}
 use Rattle.qn_model.specs.Fitting.{fits, read_as}
 use Rattle.qn_model.specs.NodeOutputs.{newest_outs, with_entry}
-use Rattle.qn_member.specs.Maker.{Maker, view_at}
+use Rattle.qn_member.specs.Naming.{NamingMaker}
+use Rattle.qn_member.specs.NamingViews.{answer_at}
 use Rattle.qn_live.specs.declared.live_end.LiveEnd.{LiveEnd}
 use Rattle.qn_live.specs.declared.place.Choice.{Choice}
 use Rattle.qn_live.specs.declared.place.Choice.TheVariants as choice
 use Rattle.qn_live.specs.declared.place.Waits.{Waits}
 use Rattle.qn_live.specs.Running.{RunState}
-use Rattle.qn_live.specs.Choosing.{heard, is_late, is_to_leave, looked, looking, ready, view_or_tick}
+use Rattle.qn_live.specs.Choosing.{is_late, is_to_leave, looked, looking, own_of, ready, told, view_or_tick}
 use Rattle.qn_live.specs.Performing.{end_in}
-use Rattle.qn_live.specs.Runs.{asked_maker, greets, taken}
+use Rattle.qn_live.specs.declared.words.Own.{Own}
+use Rattle.qn_live.specs.Runs.{asked_maker, greets, looked_at, taken}
 use Rattle.qn_joined.specs.Stands.{Looking, acts_at, begun_at, clocked_by, farewells_due, handled_at, log_at, opening, parts_at, polled_at, said_at, sends_due, settled_by, taking}
 use Rattle.qn_joined.specs.Owning.{Owns, is_calm, is_done_stop, is_no_stop, stops_in}
 use Rattle.std.specs.Option.{option_map_or}
@@ -93,11 +95,11 @@ view_no_stop : (found : Option View) → is_stopped (view_or_tick found) ≡ fal
 view_no_stop None = refl
 view_no_stop (Some view) = refl
 
-looked_no_stop : (tick : ℕ) (chosen : Choice) (maker : Option Maker) → stops_in chosen ≡ false → is_stopped (looked tick chosen maker).1 ≡ false
-looked_no_stop tick (choice.Whole entry) maker is = is
-looked_no_stop tick (choice.Answer reply) maker is = refl
-looked_no_stop tick (choice.Open p) None is = refl
-looked_no_stop tick (choice.Open p) (Some m) is = view_no_stop (view_at tick (heard tick p m))
+looked_no_stop : (tick : ℕ) (own : Own) (chosen : Choice) (maker : Option NamingMaker) → stops_in chosen ≡ false → is_stopped (looked tick own chosen maker).1 ≡ false
+looked_no_stop tick own (choice.Whole entry) maker is = is
+looked_no_stop tick own (choice.Answer reply) maker is = refl
+looked_no_stop tick own (choice.Open p) None is = refl
+looked_no_stop tick own (choice.Open p) (Some m) is = view_no_stop (answer_at tick (told tick own p m))
 
 -- an answer of the device is no stop
 device_no_stop : (answer : Option Bool) → stops_in (option_map_or (λ agrees. choice.Whole (what.Device agrees)) answer (choice.Open None)) ≡ false
@@ -120,20 +122,20 @@ no_stop_done : (stopped : Option Bool) → is_no_stop stopped ≡ true → is_do
 no_stop_done None free = refl
 no_stop_done (Some ok) free = absurd cc
 
-handled_owns : (s : Settings) (me : ℕ) (leave : Option ℕ) (turn more : ℕ) (st : RunState) (tick : ℕ) (chosen : Choice) (runs : Bool)
+handled_owns : (s : Settings) (me : ℕ) (leave : Option ℕ) (turn more : ℕ) (st : RunState) (tick : ℕ) (own : Own) (chosen : Choice) (runs : Bool)
     → (runs ≡ true → (holds st.log ≡ true) × (stops_in chosen ≡ false))
     → is_no_stop st.waits.stopped ≡ true
     → is_calm st.waits.disk ≡ true
-    → Owns (handled_at s me leave turn more st tick (looked tick chosen st.maker)).spot (has_start (newest_outs (taken s me st tick (looked tick chosen st.maker)).log) || runs)
+    → Owns (handled_at s me leave turn more st tick (looked tick own chosen st.maker)).spot (has_start (newest_outs (taken s me st tick (looked tick own chosen st.maker)).log) || runs)
 unfolding with_entry holds
-handled_owns s me leave turn more st tick chosen runs held free calm =
-    let found = looked tick chosen st.maker in
+handled_owns s me leave turn more st tick own chosen runs held free calm =
+    let found = looked tick own chosen st.maker in
     let after = taken s me st tick found in
     acts_owns s me leave turn more found.1 (newest_outs after.log) (newest_outs after.log) after (has_start (newest_outs after.log) || runs)
     (record {
       held = λ r. (
         held_on (has_start (newest_outs after.log)) runs (holds st.log) (is_stopped (read_as s me st.log found.1))
-            (λ q. ((held q).0, read_no_stop (fits s me st.log found.1) found.1 (looked_no_stop tick chosen st.maker (held q).1))) r,
+            (λ q. ((held q).0, read_no_stop (fits s me st.log found.1) found.1 (looked_no_stop tick own chosen st.maker (held q).1))) r,
         no_stop_done st.waits.stopped free,
       );
       calm = calm;
@@ -196,7 +198,7 @@ looks_own s me leave turn more chosen tick runs true owns =
       calm = refl;
     }
 looks_own s me leave turn more chosen tick runs false owns =
-    subst (λ (l : List Line). Owns (handled_at s me leave turn more (looking tick (answered tick chosen)) tick (looked tick (answered tick chosen).0 chosen.1.maker)).spot (has_start (newest_outs l) || runs))
-    (sym (acts_log s me leave turn more (looked tick (answered tick chosen).0 chosen.1.maker).1 (newest_outs (taken s me (looking tick (answered tick chosen)) tick (looked tick (answered tick chosen).0 chosen.1.maker)).log) (newest_outs (taken s me (looking tick (answered tick chosen)) tick (looked tick (answered tick chosen).0 chosen.1.maker)).log) (taken s me (looking tick (answered tick chosen)) tick (looked tick (answered tick chosen).0 chosen.1.maker))))
-    (handled_owns s me leave turn more (looking tick (answered tick chosen)) tick (answered tick chosen).0 runs
+    subst (λ (l : List Line). Owns (handled_at s me leave turn more (looking tick (answered tick chosen)) tick (looked_at tick (answered tick chosen))).spot (has_start (newest_outs l) || runs))
+    (sym (acts_log s me leave turn more (looked_at tick (answered tick chosen)).1 (newest_outs (taken s me (looking tick (answered tick chosen)) tick (looked_at tick (answered tick chosen))).log) (newest_outs (taken s me (looking tick (answered tick chosen)) tick (looked_at tick (answered tick chosen))).log) (taken s me (looking tick (answered tick chosen)) tick (looked_at tick (answered tick chosen)))))
+    (handled_owns s me leave turn more (looking tick (answered tick chosen)) tick (own_of (looking tick (answered tick chosen))) (answered tick chosen).0 runs
     (λ r. ((owns.held r).0, answered_no_stop tick chosen.1.poller chosen.0 (owns.held r).1)) owns.free owns.calm)

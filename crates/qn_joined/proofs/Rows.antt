@@ -1,8 +1,10 @@
 -- A joined run in which the resources of two nodes run, one after the other, with a reset between.
-use Rattle.std.proofs.Common.{◌≡◌, ◌<◌, ℕ, suc, zero, Bool, true, false, List, [], ◌∷◌, ◌++◌, ◌+◌, ◌^◌, ◌==◌, None, Some, if◌then◌else◌, refl, arith}
+use Rattle.std.proofs.Common.{◌≡◌, ◌<◌, ℕ, suc, zero, Bool, true, false, List, [], ◌∷◌, ◌++◌, ◌+◌, ◌*◌, ◌^◌, ◌==◌, None, Some, if◌then◌else◌, refl, arith}
 use Rattle.qn_base.specs.declared.calls.Call.TheVariants as call
 use Rattle.qn_base.specs.declared.calls.Received.TheVariants as received
 use Rattle.qn_base.specs.declared.ids.Said.{Said}
+use Rattle.qn_base.specs.declared.ids.Standing.{Standing}
+use Rattle.qn_base.specs.declared.ids.View.{View}
 use Rattle.qn_base.specs.lemmas.Numbers.{one_is_not_zero}
 use Rattle.qn_model.specs.declared.times.Timing.{Timing}
 use Rattle.qn_model.specs.declared.disk.Message.TheVariants as message
@@ -13,10 +15,12 @@ use Rattle.qn_model.specs.NodeOutputs.{log_from}
 use Rattle.qn_model.specs.Sectors.{anonymous, header_bytes, header_bytes_in, mail_bytes, mail_place, slot_bytes, slot_place}
 use Rattle.qn_model.specs.World.{failed}
 use Rattle.qn_sector.specs.Reading.{header_in, mail_of, slot_of}
-use Rattle.qn_member.specs.Maker.{after_tick, ranks_that, view_at, with_ranks}
+use Rattle.qn_candidate.specs.Candidate.{heaviest}
+use Rattle.qn_member.specs.Maker.{ranks_that, with_ranks}
+use Rattle.qn_member.specs.NamingViews.{after_found, after_look, answer_at, view_found}
 use Rattle.qn_wire.specs.Packets.{packet_bytes}
 use Rattle.qn_live.specs.Choosing.{choice_plan}
-use Rattle.qn_live.specs.Greetings.{no_standing, sends_plan}
+use Rattle.qn_live.specs.Greetings.{sends_plan}
 use Rattle.qn_live.specs.Performing.{disk_call, done, out_call, outs_plan, reset_by, waits_after}
 use Rattle.qn_live.specs.Runs.{clocked, greeted, handled, live_plan, parted, run_plan, settled}
 use Rattle.qn_joined.specs.Stands.{after_spot, left_plan}
@@ -58,19 +62,29 @@ claims me =
     ∷ []
 
 -- what a node says before its first look, and what it says where it sees itself alone: with two_node each node is able
-abbrev begins_alone : ℕ → Said
+abbrev pub begins_alone : ℕ → Said
 begins_alone me = record { hears = record { 0 = 2 ^ me }; follows = None; able = false }
 
-abbrev leads_alone : ℕ → Said
+abbrev pub leads_alone : ℕ → Said
 leads_alone me = record { hears = record { 0 = 2 ^ me }; follows = Some (record { 0 = me }); able = true }
+
+-- what a node says of itself that knows names: that alone, and that it holds, so that it keeps
+abbrev pub knows_names : Standing
+knows_names = record { flags = 32; weight = 0 }
+
+abbrev pub holds_and_keeps : Standing
+holds_and_keeps = record { flags = 56; weight = 0 }
+
+-- a view of that number that names a rank
+abbrev pub named_view : ℕ → ℕ → ℕ → View
+named_view rank number members = record { id = (rank + 1) * 2 ^ 56 + number; members = record { 0 = members } }
 
 -- it clears its mailbox and reads it: it is up, and says hello
 abbrev pub comes_up : ℕ → ℕ → List Happening
 comes_up me other =
     Returns me (call.Feed true)
     ∷ Returns me (call.Now 0)
-    ∷ Returns me (call.Send (record { 0 = other }) (packet_bytes (packet.Heard (record { 0 = me }) (begins_alone me) no_standing)) true)
-    ∷ Returns me (call.Send (record { 0 = other }) (packet_bytes (packet.Hello (record { 0 = me }))) true)
+    ∷ Returns me (call.Send (record { 0 = other }) (packet_bytes (packet.Heard (record { 0 = me }) (begins_alone me) knows_names)) true)
     ∷ Returns me (call.Read (mail_place me) (mail_bytes (anonymous message.Empty)) true)
     ∷ Lands me
     ∷ Returns me (call.Feed true)
@@ -85,9 +99,8 @@ is_alone me other =
     Feeds me
     ∷ Returns me (call.Feed true)
     ∷ Returns me (call.Now 3)
-    ∷ Returns me (call.Send (record { 0 = other }) (packet_bytes (packet.Announce (record { 0 = me }) (record { id = 1; members = record { 0 = 2 ^ me } }))) true)
-    ∷ Returns me (call.Send (record { 0 = other }) (packet_bytes (packet.Heard (record { 0 = me }) (leads_alone me) no_standing)) true)
-    ∷ Returns me (call.Send (record { 0 = other }) (packet_bytes (packet.Hello (record { 0 = me }))) true)
+    ∷ Returns me (call.Send (record { 0 = other }) (packet_bytes (packet.Announce (record { 0 = me }) (named_view me 1 (2 ^ me)))) true)
+    ∷ Returns me (call.Send (record { 0 = other }) (packet_bytes (packet.Heard (record { 0 = me }) (leads_alone me) knows_names)) true)
     ∷ Returns me (call.Read (mail_place me) (mail_bytes (anonymous message.Empty)) true)
     ∷ Lands me
     ∷ Returns me (call.Now 3)
@@ -128,9 +141,8 @@ waits =
     ∷ Feeds 0
     ∷ Returns 0 (call.Feed true)
     ∷ Returns 0 (call.Now 993)
-    ∷ Returns 0 (call.Send (record { 0 = 1 }) (packet_bytes (packet.Announce (record { 0 = 0 }) (record { id = 1; members = record { 0 = 2 ^ 0 } }))) true)
-    ∷ Returns 0 (call.Send (record { 0 = 1 }) (packet_bytes (packet.Heard (record { 0 = 0 }) (leads_alone 0) no_standing)) true)
-    ∷ Returns 0 (call.Send (record { 0 = 1 }) (packet_bytes (packet.Hello (record { 0 = 0 }))) true)
+    ∷ Returns 0 (call.Send (record { 0 = 1 }) (packet_bytes (packet.Announce (record { 0 = 0 }) (named_view 0 1 1))) true)
+    ∷ Returns 0 (call.Send (record { 0 = 1 }) (packet_bytes (packet.Heard (record { 0 = 0 }) (leads_alone 0) knows_names)) true)
     ∷ Returns 0 (call.Read (mail_place 0) (mail_bytes (anonymous message.Empty)) true)
     ∷ Lands 0
     ∷ Returns 0 (call.Now 993)
@@ -152,7 +164,7 @@ newest ▸ earlier = (newest, earlier)
 
 -- what the rows compute with
 unfoldable pub joint_steps : Bool
-unfolding node_steps log_from header_bytes_in mail_bytes slot_bytes header_in mail_of slot_of failed ranks_that with_ranks view_at after_tick choice_plan sends_plan disk_call done out_call outs_plan waits_after clocked greeted handled settled live_plan parted run_plan left_plan after_spot returned looked_first happens joint_after AllMayHappen packet_bytes
+unfolding node_steps heaviest log_from header_bytes_in mail_bytes slot_bytes header_in mail_of slot_of failed ranks_that with_ranks view_found after_found answer_at after_look choice_plan sends_plan disk_call done out_call outs_plan waits_after clocked greeted handled settled live_plan parted run_plan left_plan after_spot returned looked_first happens joint_after AllMayHappen packet_bytes
 joint_steps = true
 
 claims_first : May (claims 1)
@@ -180,7 +192,6 @@ comes_up_first =
     record { on = refl; asked = refl; waits = refl; answer = tt; spells = refl } ▸
     record { on = refl; asked = refl; waits = refl; answer = refl; spells = refl } ▸
     record { on = refl; asked = refl; waits = refl; answer = tt; spells = refl } ▸
-    record { on = refl; asked = refl; waits = refl; answer = tt; spells = refl } ▸
     record { on = refl; asked = refl; waits = refl; answer = λ ok. refl; spells = refl } ▸
     (refl, refl, refl) ▸
     record { on = refl; asked = refl; waits = refl; answer = tt; spells = refl } ▸
@@ -195,7 +206,6 @@ alone_first =
     (refl, refl) ▸
     record { on = refl; asked = refl; waits = refl; answer = tt; spells = refl } ▸
     record { on = refl; asked = refl; waits = refl; answer = refl; spells = refl } ▸
-    record { on = refl; asked = refl; waits = refl; answer = tt; spells = refl } ▸
     record { on = refl; asked = refl; waits = refl; answer = tt; spells = refl } ▸
     record { on = refl; asked = refl; waits = refl; answer = tt; spells = refl } ▸
     record { on = refl; asked = refl; waits = refl; answer = λ ok. refl; spells = refl } ▸
@@ -241,7 +251,6 @@ comes_up_second =
     record { on = refl; asked = refl; waits = refl; answer = tt; spells = refl } ▸
     record { on = refl; asked = refl; waits = refl; answer = refl; spells = refl } ▸
     record { on = refl; asked = refl; waits = refl; answer = tt; spells = refl } ▸
-    record { on = refl; asked = refl; waits = refl; answer = tt; spells = refl } ▸
     record { on = refl; asked = refl; waits = refl; answer = λ ok. refl; spells = refl } ▸
     (refl, refl, refl) ▸
     record { on = refl; asked = refl; waits = refl; answer = tt; spells = refl } ▸
@@ -256,7 +265,6 @@ alone_second =
     (refl, refl) ▸
     record { on = refl; asked = refl; waits = refl; answer = tt; spells = refl } ▸
     record { on = refl; asked = refl; waits = refl; answer = refl; spells = refl } ▸
-    record { on = refl; asked = refl; waits = refl; answer = tt; spells = refl } ▸
     record { on = refl; asked = refl; waits = refl; answer = tt; spells = refl } ▸
     record { on = refl; asked = refl; waits = refl; answer = tt; spells = refl } ▸
     record { on = refl; asked = refl; waits = refl; answer = λ ok. refl; spells = refl } ▸
@@ -288,7 +296,6 @@ take_over_may =
     (refl, refl) ▸
     record { on = refl; asked = refl; waits = refl; answer = tt; spells = refl } ▸
     record { on = refl; asked = refl; waits = refl; answer = refl; spells = refl } ▸
-    record { on = refl; asked = refl; waits = refl; answer = tt; spells = refl } ▸
     record { on = refl; asked = refl; waits = refl; answer = tt; spells = refl } ▸
     record { on = refl; asked = refl; waits = refl; answer = tt; spells = refl } ▸
     record { on = refl; asked = refl; waits = refl; answer = λ ok. refl; spells = refl } ▸

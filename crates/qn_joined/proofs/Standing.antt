@@ -15,8 +15,8 @@ use Rattle.qn_model.specs.Steps.{entry_of}
 use Rattle.qn_base.specs.declared.ids.View.{View}
 use Rattle.std.specs.Option.{option_map_or}
 use Rattle.qn_model.specs.lemmas.Entries.{packet_answers_none}
-use Rattle.qn_member.specs.Announcing.{view_to_announce}
-use Rattle.qn_member.specs.Maker.{Maker}
+use Rattle.qn_member.specs.Naming.{NamingMaker}
+use Rattle.qn_member.specs.NamingViews.{view_announced}
 use Rattle.qn_wire.specs.Reading.{packet_of}
 use Rattle.qn_live.specs.declared.live_end.LiveEnd.{LiveEnd}
 use Rattle.qn_live.specs.declared.place.Choice.{Choice}
@@ -26,7 +26,7 @@ use Rattle.qn_live.specs.Running.{RunState}
 use Rattle.qn_live.specs.Choosing.{choice_in, choice_of, is_entry_for, is_late, is_to_leave, packet_in, ready}
 use Rattle.qn_live.specs.declared.place.Greeting.{Greeting}
 use Rattle.qn_live.specs.declared.place.Greeting.TheVariants as greeting
-use Rattle.qn_live.specs.Greetings.{farewell_after, greeting_packet, others_from, said_after, to_all, to_each, to_send}
+use Rattle.qn_live.specs.Greetings.{farewell_after, first_greeting, greeting_packet, others_from, said_after, to_each, to_send}
 use Rattle.qn_live.specs.Performing.{end_after, end_in}
 use Rattle.qn_live.specs.Polling.{choice_beside, is_device, is_reply_for, poll_due, polled, reply_in}
 use Rattle.qn_live.specs.Runs.{asked_maker, greets}
@@ -233,33 +233,31 @@ both_greet (sent ∷ rest) second one two = by_first (is_greeting sent.packet) o
     by_first false h next = absurd cc
 
 said_greet : (me : ℕ) (said : Greeting) → is_greeting (greeting_packet me said) ≡ true
-said_greet me greeting.Hello = refl
-said_greet me (greeting.Heard said) = refl
+said_greet me (greeting.Hello said standing) = refl
 said_greet me (greeting.Announce view) = refl
 
 views_greet : (me : ℕ) (ranks : List ℕ) (found : Option View) → all_greet (option_map_or (λ view. to_each (greeting_packet me (greeting.Announce view)) ranks) found []) ≡ true
 views_greet me ranks None = refl
 views_greet me ranks (Some view) = each_greet (greeting_packet me (greeting.Announce view)) refl ranks
 
-send_greet : (s : Settings) (me : ℕ) (maker : Option Maker) (said : Greeting) (from : ℕ) → all_greet (to_send s me maker said from) ≡ true
+send_greet : (s : Settings) (me : ℕ) (maker : Option NamingMaker) (said : Greeting) (from : ℕ) → all_greet (to_send s me maker said from) ≡ true
 send_greet s me maker said from =
     both_greet (to_each (greeting_packet me said) (others_from s me from)) _ (each_greet (greeting_packet me said) (said_greet me said) (others_from s me from))
     (follows said maker)
   where
-    follows : (said : Greeting) (maker : Option Maker) → all_greet (said_after s me maker said) ≡ true
-    follows greeting.Hello None = refl
-    follows greeting.Hello (Some m) =
-        both_greet (to_all s me (greeting.Heard m.says)) _ (each_greet (greeting_packet me (greeting.Heard m.says)) refl (others_from s me 0))
-        (views_greet me (others_from s me 0) (option_and_then view_to_announce (Some m)))
-    follows (greeting.Heard said) maker = views_greet me (others_from s me 0) (option_and_then view_to_announce maker)
+    follows : (said : Greeting) (maker : Option NamingMaker) → all_greet (said_after s me maker said) ≡ true
+    follows (greeting.Hello said standing) maker = views_greet me (others_from s me 0) (option_and_then view_announced maker)
     follows (greeting.Announce view) maker = refl
 
 due_greet : (s : Settings) (me : ℕ) (st : RunState) → all_greet (sends_due s me st) ≡ true
-due_greet s me st = by_due (greets s me st)
+due_greet s me st = by_first (first_greeting (greets s me st) maker)
   where
-    by_due : (b : Bool) → all_greet (if b then to_send s me (asked_maker s me st).maker greeting.Hello 0 else []) ≡ true
-    by_due true = send_greet s me (asked_maker s me st).maker greeting.Hello 0
-    by_due false = refl
+    maker : Option NamingMaker
+    maker = (asked_maker s me st).maker
+
+    by_first : (first : Option Greeting) → all_greet (option_map_or (λ said. to_send s me maker said 0) first []) ≡ true
+    by_first None = refl
+    by_first (Some said) = send_greet s me maker said 0
 
 opening_greets : (st : RunState) (late : Bool) → greets_at (opening st late) ≡ true
 opening_greets st true = refl

@@ -11,17 +11,17 @@ use Rattle.qn_model.specs.declared.outputs.Out.{Out}
 use Rattle.qn_model.specs.declared.packets.Sent.{Sent}
 use Rattle.qn_model.specs.Log.{now}
 use Rattle.qn_model.specs.NodeOutputs.{newest_outs}
-use Rattle.qn_member.specs.Maker.{Maker}
+use Rattle.qn_member.specs.Naming.{NamingMaker}
 use Rattle.qn_live.specs.declared.live_end.LiveEnd.{LiveEnd}
 use Rattle.qn_live.specs.declared.live_end.LiveEnd.TheVariants as end
 use Rattle.qn_live.specs.declared.place.Choice.{Choice}
 use Rattle.qn_live.specs.declared.place.Choice.TheVariants as choice
 use Rattle.qn_live.specs.declared.place.Waits.{Waits}
 use Rattle.qn_live.specs.Running.{RunState, Turned, Over, Next, Ran, later}
-use Rattle.qn_live.specs.Choosing.{choice_plan, is_late, is_to_leave, looked, looking, open_plan, ready}
+use Rattle.qn_live.specs.Choosing.{choice_plan, is_late, is_to_leave, looking, open_plan, ready}
 use Rattle.qn_live.specs.Greetings.{sends_plan}
 use Rattle.qn_live.specs.Performing.{end_in, noted, outs_plan}
-use Rattle.qn_live.specs.Runs.{asked_maker, clocked, greeted, greets, handled, live_plan, parted, run_plan, settled, taken, timed}
+use Rattle.qn_live.specs.Runs.{asked_maker, clocked, greeted, greets, handled, live_plan, looked_at, parted, run_plan, settled, taken, timed}
 use Rattle.qn_joined.specs.Stands.{Spot, Receiving, Looking, Acting, Polling, Saying, Parting, Ended, Stand, acts_at, after_call, after_spot, begun_at, clocked_by, first_stand, greeted_at, handled_at, farewells_due, left_plan, opening, parts_at, plan_at, polled_at, said_at, sends_due, settled_by, taking}
 use Rattle.qn_safety.specs.declared.polls.Poll.{Poll}
 use Rattle.qn_live.specs.Polling.{answered, poll_due, poll_plan, polled}
@@ -89,7 +89,7 @@ unfolding outs_plan settled left_plan
 acts_plan s me leave turn more entry outs [] st = settled_plan s me leave turn more entry st (end_in entry outs)
 acts_plan s me leave turn more entry outs (o ∷ rest) st = refl
 
-handled_plan : (s : Settings) (me : ℕ) (leave : Option ℕ) (turn more : ℕ) (st : RunState) (tick : ℕ) (found : Option Maker × What)
+handled_plan : (s : Settings) (me : ℕ) (leave : Option ℕ) (turn more : ℕ) (st : RunState) (tick : ℕ) (found : Option NamingMaker × What)
     → handled s me st tick found >>= rest_of s me leave turn more ≡ plan_at s me leave (handled_at s me leave turn more st tick found)
 unfolding handled
 handled_plan s me leave turn more st tick found =
@@ -97,12 +97,12 @@ handled_plan s me leave turn more st tick found =
     acts_plan s me leave turn more found.1 (newest_outs after.log) (newest_outs after.log) after
 
 clocked_plan : (s : Settings) (me : ℕ) (leave : Option ℕ) (turn more : ℕ) (chosen : Choice × RunState) (tick : ℕ) (back : Bool)
-    → (if back then Ends (Over (end.ClockBack (now chosen.1.log) tick) chosen.1.log) else handled s me (looking tick (answered tick chosen)) tick (looked tick (answered tick chosen).0 chosen.1.maker)) >>= rest_of s me leave turn more
+    → (if back then Ends (Over (end.ClockBack (now chosen.1.log) tick) chosen.1.log) else handled s me (looking tick (answered tick chosen)) tick (looked_at tick (answered tick chosen))) >>= rest_of s me leave turn more
     ≡ plan_at s me leave (clocked_by s me leave turn more chosen tick back)
 unfolding left_plan
 clocked_plan s me leave turn more chosen tick true = refl
 clocked_plan s me leave turn more chosen tick false =
-    handled_plan s me leave turn more (looking tick (answered tick chosen)) tick (looked tick (answered tick chosen).0 chosen.1.maker)
+    handled_plan s me leave turn more (looking tick (answered tick chosen)) tick (looked_at tick (answered tick chosen))
 
 spot_left : (s : Settings) (me : ℕ) (leave : Option ℕ) (turn more : ℕ) (spot : Spot) (call : Call)
     → left (left_plan s me leave turn more spot) call ≡ plan_at s me leave (after_spot s me leave turn more spot call)

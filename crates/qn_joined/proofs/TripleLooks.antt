@@ -20,7 +20,7 @@ use Rattle.qn_model.specs.Moments.{Adds, Running, handed, logged, node, packets,
 use Rattle.qn_model.specs.NodeOutputs.{newest_outs, with_entry}
 use Rattle.qn_parts.specs.Parts.{is_good_on}
 use Rattle.qn_live.specs.declared.place.Choice.{Choice}
-use Rattle.qn_live.specs.Choosing.{looked}
+use Rattle.qn_live.specs.Runs.{looked_at}
 use Rattle.qn_live.specs.Running.{RunState}
 use Rattle.qn_live.specs.TripleDisk.{call_plan}
 use Rattle.qn_safety.specs.NodeLogs.{IsNodeLog}
@@ -79,7 +79,7 @@ module _ (s : Settings) (t : Timing) (rank : ℕ) (j : TripleJoint) (nodes : Tri
 
   module _ (tick : ℕ) (may : joints.MayReturnTriple s rank (call.Now tick) j) where
     abbrev entry : What
-    entry = (looked tick (answered tick chosen).0 chosen.1.maker).1
+    entry = (looked_at tick (answered tick chosen)).1
 
     one : IsNode s rank (at host.one (Looking chosen)) n is.took [] (packets s w.moments)
     one = subst (λ spot. IsNode s rank (at host.one spot) n is.took [] (packets s w.moments)) looking is.one
@@ -90,7 +90,7 @@ module _ (s : Settings) (t : Timing) (rank : ℕ) (j : TripleJoint) (nodes : Tri
     comes : ComesIn rank n.log is.took (packets s w.moments) entry
     comes =
         subst (λ l. ComesIn rank l is.took (packets s w.moments) entry) (sym (one.log lives))
-        (looked_comes rank chosen.1.log is.took (packets s w.moments) tick (answered tick chosen).0 chosen.1.maker
+        (looked_comes rank chosen.1.log is.took (packets s w.moments) tick (answered tick chosen)
         (answered_comes rank chosen.1.log is.took (packets s w.moments) tick chosen.1.poller chosen.0 (one.backed lives).2))
 
     h : HandsOnThree s t rank entry host.good has.events
@@ -138,14 +138,14 @@ module _ (s : Settings) (t : Timing) (rank : ℕ) (j : TripleJoint) (nodes : Tri
     one_after =
         subst (λ x. IsNode s rank x n' took' [] all') (returned_plain s rank (call.Now tick) now host.one refl is.plain.0 is.plain.1)
         (subst (λ spot. IsNode s rank (returned s rank (call.Now tick) now (at host.one spot)) n' took' [] all') (sym looking)
-        (handed_at s rank n is.took took' [] [] all' host.one chosen now tick ready may.on may.asked may.answer logs spends (plain_looked tick chosen.1.poller chosen.0 chosen.1.maker)
-        (answer_looked tick chosen.1.poller chosen.0 chosen.1.maker) said))
+        (handed_at s rank n is.took took' [] [] all' host.one chosen now tick ready may.on may.asked may.answer logs spends (plain_looked tick chosen)
+        (answer_looked tick chosen) said))
 
     ahead_is : disk_ahead (returned_one s rank (call.Now tick) now host.one).stand.spot ≡ disk_of (newest_outs n'.log)
     ahead_is =
         ap (λ spot. disk_ahead (returned s rank (call.Now tick) now (at host.one spot)).stand.spot) looking
-        ∙ handed_ahead s rank n is.took took' [] [] all' host.one chosen now tick ready may.on may.asked may.answer logs spends (plain_looked tick chosen.1.poller chosen.0 chosen.1.maker)
-        (answer_looked tick chosen.1.poller chosen.0 chosen.1.maker) said
+        ∙ handed_ahead s rank n is.took took' [] [] all' host.one chosen now tick ready may.on may.asked may.answer logs spends (plain_looked tick chosen)
+        (answer_looked tick chosen) said
 
     -- ## The operation
 

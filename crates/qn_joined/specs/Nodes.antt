@@ -15,8 +15,8 @@ use Rattle.qn_model.specs.Moments.{Running, handed, tick_of}
 use Rattle.qn_model.specs.NodeOutputs.{newest_outs}
 use Rattle.qn_model.specs.World.{given_up}
 use Rattle.qn_wire.specs.Reading.{packet_of}
+use Rattle.qn_live.specs.Runs.{looked_at}
 use Rattle.qn_live.specs.declared.place.Choice.{Choice}
-use Rattle.qn_live.specs.Choosing.{looked}
 use Rattle.qn_live.specs.Running.{RunState}
 use Rattle.qn_joined.specs.Joints.{Host, MayAnswer, counts, returned, waits_for}
 use Rattle.qn_safety.specs.NodeLogs.{IsNodeLog}
@@ -103,8 +103,8 @@ LooksAsNode s rank =
     → host.on ≡ true
     → host.asked ≡ true
     → tick ≡ tick_of host.clock
-    → IsNodeLog s (handed s rank time (looked tick (answered tick chosen).0 chosen.1.maker).1 n).log
-    → Spends s rank (looked tick (answered tick chosen).0 chosen.1.maker).1 host took took' left left'
-    → AllSaid all (newest_outs (handed s rank time (looked tick (answered tick chosen).0 chosen.1.maker).1 n).log)
+    → IsNodeLog s (handed s rank time (looked_at tick (answered tick chosen)).1 n).log
+    → Spends s rank (looked_at tick (answered tick chosen)).1 host took took' left left'
+    → AllSaid all (newest_outs (handed s rank time (looked_at tick (answered tick chosen)).1 n).log)
     → IsNode s rank (returned s rank (call.Now tick) time (at host (Looking chosen)))
-    (handed s rank time (looked tick (answered tick chosen).0 chosen.1.maker).1 n) took' left' all
+    (handed s rank time (looked_at tick (answered tick chosen)).1 n) took' left' all

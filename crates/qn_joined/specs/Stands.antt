@@ -12,19 +12,18 @@ use Rattle.qn_model.specs.Log.{Line, now}
 use Rattle.qn_model.specs.Moments.{begin_of}
 use Rattle.qn_model.specs.NodeOutputs.{newest_outs}
 use Rattle.qn_safety.specs.declared.polls.Poll.{Poll}
-use Rattle.qn_member.specs.Maker.{Maker}
+use Rattle.qn_member.specs.Naming.{NamingMaker}
 use Rattle.qn_live.specs.declared.live_end.LiveEnd.TheVariants as end
 use Rattle.qn_live.specs.declared.live_end.LiveEnd.{LiveEnd}
 use Rattle.qn_live.specs.declared.place.Choice.{Choice}
 use Rattle.qn_live.specs.declared.place.Choice.TheVariants as choice
-use Rattle.qn_live.specs.declared.place.Greeting.TheVariants as greeting
 use Rattle.qn_live.specs.declared.place.Waits.{Waits}
 use Rattle.qn_live.specs.Running.{RunState, first_state, Over, Next, Ran, later}
-use Rattle.qn_live.specs.Choosing.{choice_in, heard_request, is_late, is_to_leave, looked, looking, ready, receive_plan}
+use Rattle.qn_live.specs.Choosing.{choice_in, heard_request, is_late, is_to_leave, looking, ready, receive_plan}
 use Rattle.qn_live.specs.Polling.{answered, poll_due, poll_plan, polled}
 use Rattle.qn_live.specs.Performing.{end_in, noted, outs_plan}
-use Rattle.qn_live.specs.Greetings.{farewell_after, farewells, sends_plan, to_send}
-use Rattle.qn_live.specs.Runs.{asked_maker, greets, run_plan, settled, taken, timed, turns_end}
+use Rattle.qn_live.specs.Greetings.{farewell_after, farewells, hellos_where, sends_plan}
+use Rattle.qn_live.specs.Runs.{asked_maker, greets, looked_at, run_plan, settled, taken, timed, turns_end}
 
 -- the call that comes next
 pub data Spot : Type 0 where
@@ -96,7 +95,7 @@ said_at s me leave turn more st (sent ∷ rest) = record { turn = turn; more = m
 
 -- what the view maker sends
 abbrev pub sends_due : Settings → ℕ → RunState → List Sent
-sends_due s me st = if greets s me st then to_send s me (asked_maker s me st).maker greeting.Hello 0 else []
+sends_due s me st = hellos_where (greets s me st) s me (asked_maker s me st).maker
 
 -- the poll is to be sent, where one is, and then these packets of the view maker
 abbrev pub polled_at : Settings → ℕ → Option ℕ → ℕ → ℕ → RunState → List Sent → Option Poll → Stand
@@ -135,7 +134,7 @@ acts_at s me leave turn more entry outs (o ∷ rest) st =
     record { turn = turn; more = more; spot = Acting entry outs o rest st }
 
 -- the clock was looked at, and the entry taken in
-abbrev pub handled_at : Settings → ℕ → Option ℕ → ℕ → ℕ → RunState → ℕ → Option Maker × What → Stand
+abbrev pub handled_at : Settings → ℕ → Option ℕ → ℕ → ℕ → RunState → ℕ → Option NamingMaker × What → Stand
 handled_at s me leave turn more st tick found =
     let after = taken s me st tick found in
     acts_at s me leave turn more found.1 (newest_outs after.log) (newest_outs after.log) after
@@ -143,7 +142,7 @@ handled_at s me leave turn more st tick found =
 abbrev pub clocked_by : Settings → ℕ → Option ℕ → ℕ → ℕ → Choice × RunState → ℕ → Bool → Stand
 clocked_by s me leave turn more chosen tick back =
     if back then record { turn = turn; more = more; spot = Ended (record { end = end.ClockBack (now chosen.1.log) tick; log = chosen.1.log }) }
-    else handled_at s me leave turn more (looking tick (answered tick chosen)) tick (looked tick (answered tick chosen).0 chosen.1.maker)
+    else handled_at s me leave turn more (looking tick (answered tick chosen)) tick (looked_at tick (answered tick chosen))
 
 -- where the run stands after a call with its answer
 unfoldable pub after_spot : Settings → ℕ → Option ℕ → ℕ → ℕ → Spot → Call → Stand

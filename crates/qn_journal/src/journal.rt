@@ -2,9 +2,11 @@
 ghost use Rattle.qn_io.specs.Receives.{FitsPacket};
 
 use crate::arbiter::ArbiterNews;
+use crate::device::DeviceNews;
 use crate::ending::end_text;
 use crate::group_file::group_of_file;
 use crate::mail::{MailNews, MailState, Mailbox};
+use crate::node_names::NodeNames;
 use crate::peers::Peers;
 use crate::seldom::Seldom;
 use crate::status_text::{Counts, Shown, status_text};
@@ -17,11 +19,12 @@ use qn_live::{Asked, Given, LiveEnd, NodeRun, Notices, Room, Standing};
 use qn_machine::{Lines, ReplacedFile};
 use qn_model::{HeaderSeen, MailSeen, Packet, Phase, Settings, What};
 use qn_notice::{Event, Observer};
+use qn_polls::get_reply;
 use qn_safety::{Lease, Poll};
 use qn_sector::{get_mail, mail_sector};
 use qn_told::{
-    ended, event_line, feeds_failed, mail_damaged, mail_failed, mail_told, packets_refused,
-    peer_lost, peer_seen,
+    device_answered, device_silent, ended, event_line, feeds_failed, mail_damaged, mail_failed,
+    mail_told, packets_refused, peer_lost, peer_seen,
 };
 use qn_wire::get_packet;
 use std::fs::File;
@@ -30,6 +33,12 @@ use std::time::Clock;
 
 /// How many sectors an image of three has.
 const IMAGE: u32 = 1024;
+
+/// The most bytes of a name.
+const MOST_NAME: usize = 63;
+
+/// The seat of an arbiter, one above those of the ranks.
+const ARBITER: Rank = Rank(32);
 
 /// How old a status becomes before it is written anew, in milliseconds.
 const AGE: u64 = 500;
@@ -43,10 +52,12 @@ pub struct Journal<'a, R: Files<File = File> + Clock + Eprint> {
     status: Option<ReplacedFile>,
     /// The path of the file in which the supervisor of the host's resources says how their group is.
     group: Option<&'a str>,
+    names: NodeNames<'a>,
     pid: u32,
     telling: Telling,
     observer: Observer,
     arbiter: ArbiterNews,
+    device: DeviceNews,
     /// How long the times of the header have a reset be waited for, in milliseconds; 0 before.
     msgwait: u64,
     mailbox: Mailbox,
@@ -65,13 +76,14 @@ pub struct Journal<'a, R: Files<File = File> + Clock + Eprint> {
 }
 
 impl<'a, R: Files<File = File> + Clock + Eprint> Journal<'a, R> {
-    /// A journal by these lines, of the process of that number, with that status file, and with the file of that path in which the supervisor of the
-    /// host's resources says how their group is.
+    /// A journal by these lines, of the process of that number, with that status file, with the file of that path in which the supervisor of the
+    /// host's resources says how their group is, and with these names of the nodes.
     pub fn new(
         rt: &'a R,
         lines: &'a Lines,
         status: Option<ReplacedFile>,
         group: Option<&'a str>,
+        names: NodeNames<'a>,
         pid: u32,
     ) -> Journal<'a, R> {
         Journal {
@@ -79,10 +91,12 @@ impl<'a, R: Files<File = File> + Clock + Eprint> Journal<'a, R> {
             lines,
             status,
             group,
+            names,
             pid,
             telling: Telling::new(),
             observer: Observer::new(),
             arbiter: ArbiterNews::new(),
+            device: DeviceNews::default(),
             msgwait: 0,
             mailbox: Mailbox::new(),
             peers: Peers::new(),
@@ -118,6 +132,7 @@ impl<'a, R: Files<File = File> + Clock + Eprint> Journal<'a, R> {
         }
         self.greet(tick, run);
         self.miss(tick, run);
+        self.tell_device(tick, run);
     }
 
     /// Has the others told how this node is, at once where it begins or ends to hold, and once a loop; then it is looked how its group is.
@@ -145,7 +160,8 @@ impl<'a, R: Files<File = File> + Clock + Eprint> Journal<'a, R> {
             return;
         }
         if self.peers.hear(rank, tick) {
-            let line = peer_seen(self.now(), nodes.id_of(rank));
+            let mut line = peer_seen(self.now(), nodes.id_of(rank));
+            add_name(&mut line, self.names.of(rank));
             self.say(&line);
         }
     }
@@ -154,15 +170,32 @@ impl<'a, R: Files<File = File> + Clock + Eprint> Journal<'a, R> {
     fn miss(&mut self, tick: u64, run: &NodeRun) {
         for (rank, node) in run.settings().nodes.as_slice().iter().enumerate() {
             if let Some(silent) = self.peers.lose(rank, tick, run.loop_ms()) {
-                let line = peer_lost(self.now(), node.id, silent);
+                let mut line = peer_lost(self.now(), node.id, silent);
+                add_name(&mut line, self.names.at(rank));
                 self.say(&line);
             }
         }
     }
 
+    /// Tells of the arbiter that the node polls: its answer, and that it is silent.
+    fn tell_device(&mut self, tick: u64, run: &NodeRun) {
+        let view = run.standing().view.map_or(0, |(_, view)| view.id);
+        if let Some(agrees) = self.device.take(run.entry(), tick, view) {
+            let line = device_answered(self.now(), agrees, view);
+            self.say(&line);
+        }
+        if let Some(age) = self.device.miss(tick, timeout_of(run)) {
+            let line = device_silent(self.now(), age);
+            self.say(&line);
+        }
+    }
+
     /// Tells an event.
     fn tell(&mut self, event: &Event, run: &NodeRun) {
-        let line = event_line(self.now(), &run.settings().nodes, self.msgwait, event);
+        let mut line = event_line(self.now(), &run.settings().nodes, self.msgwait, event);
+        if let Some(rank) = subject_of(event, run.rank()) {
+            add_name(&mut line, self.names.of(rank));
+        }
         self.say(&line);
     }
 
@@ -173,6 +206,7 @@ impl<'a, R: Files<File = File> + Clock + Eprint> Journal<'a, R> {
             Some(
                 Packet::Ask(_) | Packet::Tell(_) | Packet::Announce { .. } | Packet::Vote { .. },
             ) => {}
+            None if get_reply(bytes).is_some() => {}
             None => self.refused.count(),
         }
     }
@@ -251,6 +285,7 @@ impl<'a, R: Files<File = File> + Clock + Eprint> Journal<'a, R> {
             at: self.lines.moment(self.rt),
             pid: self.pid,
             nodes: &run.settings().nodes,
+            names: self.names,
             me: run.rank(),
             standing: &standing,
             loop_ms: run.loop_ms(),
@@ -258,6 +293,8 @@ impl<'a, R: Files<File = File> + Clock + Eprint> Journal<'a, R> {
             peers: &self.peers,
             voices: self.lines.voices(),
             telling: &self.telling,
+            device: &self.device,
+            timeout: timeout_of(run),
             counts: Counts {
                 dropped: self.lines.dropped(),
                 refused: self.refused.all(),
@@ -287,6 +324,42 @@ impl<'a, R: Files<File = File> + Clock + Eprint> Journal<'a, R> {
             }
         }
     }
+}
+
+/// Adds the name of a node, where it has one, as the last word of a line.
+fn add_name(line: &mut EventLine, name: Option<&str>) {
+    if let Some(name) = name {
+        line.word(b"name", name.as_bytes(), MOST_NAME);
+    }
+}
+
+/// Of which node an event of the node of that rank tells, where its line has an id besides that of its own node, or the number of a boot.
+fn subject_of(event: &Event, me: Rank) -> Option<Rank> {
+    match *event {
+        Event::Claimed { .. } => Some(me),
+        Event::FenceAsked { of } | Event::FenceWritten { of, .. } | Event::Licence { of } => Some(
+            of,
+        ),
+        Event::Phase { .. }
+        | Event::View { .. }
+        | Event::Released
+        | Event::QuorumWon { .. }
+        | Event::QuorumLost { .. }
+        | Event::Why { .. }
+        | Event::StartAsked
+        | Event::StopAsked
+        | Event::StartAnswered { .. }
+        | Event::StopAnswered { .. }
+        | Event::DisarmAnswered { .. }
+        | Event::HoldWon
+        | Event::HoldLost
+        | Event::Halt { .. } => None,
+    }
+}
+
+/// The timeout of the quorum device in milliseconds; 0 where there is none.
+fn timeout_of(run: &NodeRun) -> u64 {
+    run.settings().device.map_or(0, |device| device.timeout)
 }
 
 /// Where a node stands, as a status says it: one that has ended counts no votes, as a node that is off.
@@ -351,11 +424,13 @@ impl<'a, R: Files<File = File> + Clock + Eprint> Notices for Journal<'a, R> {
             Asked::Feed => if !given.ok {
                 self.late.count();
             },
+            Asked::Send { to } => if to == ARBITER && given.ok {
+                self.device.poll(run.tick());
+            },
             Asked::Now
             | Asked::Write { .. }
             | Asked::Start
             | Asked::Stop
-            | Asked::Send { .. }
             | Asked::Disarm
             | Asked::Halt { .. } => {}
         }

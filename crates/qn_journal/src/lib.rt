@@ -1,15 +1,17 @@
 //! The journal of a running node or arbiter and its status file: what `Notices` hands on becomes lines on standard error, in the grammar of
-//! docs/FORMATS.md, and one object of JSON in a file that is replaced. It is the edge: the system's clock, and files. What is told of
+//! FORMATS.md, and one object of JSON in a file that is replaced. It is the edge: the system's clock, and files. What is told of
 //! an entry is decided by `qn_notice`, and the bytes of each line by `qn_told`.
 //!
 //! Promises: each call ends, takes no memory from an allocator, and fails nowhere. No clause says what a file or standard error takes.
 #![tactic(auto)]
 
 mod arbiter;
+mod device;
 mod ending;
 mod group_file;
 mod journal;
 mod mail;
+mod node_names;
 mod peers;
 mod seldom;
 mod status_text;
@@ -17,3 +19,4 @@ mod telling;
 mod text;
 
 pub use journal::Journal;
+pub use node_names::NodeNames;

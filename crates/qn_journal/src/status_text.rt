@@ -1,5 +1,7 @@
 //! The status of a running node as one object of JSON, with its keys in alphabetical order.
+use crate::device::DeviceNews;
 use crate::mail::{MailState, Mailbox};
+use crate::node_names::NodeNames;
 use crate::peers::Peers;
 use crate::telling::Telling;
 use crate::text::Text;
@@ -11,6 +13,9 @@ use qn_machine::Voices;
 use qn_model::{Nodes, Phase};
 use qn_names::{phase_name, write_why};
 use qn_shown::{Group, Heard};
+
+/// The seat of the arbiter, one above those of the ranks.
+const ARBITER: usize = 32;
 
 /// What a status says of its node besides where it stands.
 #[derive(Clone, Copy)]
@@ -28,6 +33,7 @@ pub(crate) struct Shown<'a> {
     pub(crate) at: Moment,
     pub(crate) pid: u32,
     pub(crate) nodes: &'a Nodes,
+    pub(crate) names: NodeNames<'a>,
     pub(crate) me: Rank,
     pub(crate) standing: &'a Standing,
     pub(crate) loop_ms: u64,
@@ -35,6 +41,9 @@ pub(crate) struct Shown<'a> {
     pub(crate) peers: &'a Peers,
     pub(crate) voices: &'a Voices,
     pub(crate) telling: &'a Telling,
+    pub(crate) device: &'a DeviceNews,
+    /// The timeout of the quorum device in milliseconds; 0 where there is none.
+    pub(crate) timeout: u64,
     pub(crate) counts: Counts,
     /// How the run ended, where it has.
     pub(crate) end: Option<&'a [u8]>,
@@ -43,7 +52,7 @@ pub(crate) struct Shown<'a> {
 /// The status, with the end of its line.
 pub(crate) fn status_text(shown: &Shown<'_>) -> Text {
     let mut text = Text::new();
-    add_dropped_to_loop(&mut text, shown);
+    add_arbiter_to_loop(&mut text, shown);
     add_mail(&mut text, shown);
     add_peers(&mut text, shown);
     add_phase_to_released(&mut text, shown);
@@ -51,8 +60,18 @@ pub(crate) fn status_text(shown: &Shown<'_>) -> Text {
     text
 }
 
-fn add_dropped_to_loop(text: &mut Text, shown: &Shown<'_>) {
-    text.add(b"{\"dropped\":");
+fn add_arbiter_to_loop(text: &mut Text, shown: &Shown<'_>) {
+    text.add(b"{");
+    let voices = shown.voices;
+    let refused = voices.refused(ARBITER);
+    shown.device.add_to(
+        text,
+        shown.at.tick,
+        shown.timeout,
+        voices.arbiter(),
+        refused,
+    );
+    text.add(b"\"dropped\":");
     text.number(shown.counts.dropped);
     text.add(b",\"end\":");
     match shown.end {
@@ -116,6 +135,15 @@ fn add_mail(text: &mut Text, shown: &Shown<'_>) {
     text.maybe(by.map(|sender| u64::from(sender.id.0)));
     text.add(b",\"mail_tick\":");
     text.maybe(shown.mailbox.tick);
+    add_name(text, shown.names.of(shown.me));
+}
+
+/// The name of a node, where it has one.
+fn add_name(text: &mut Text, name: Option<&str>) {
+    if let Some(name) = name {
+        text.add(b",\"name\":");
+        text.string(name);
+    }
 }
 
 fn add_peers(text: &mut Text, shown: &Shown<'_>) {
@@ -131,6 +159,7 @@ fn add_peers(text: &mut Text, shown: &Shown<'_>) {
             text.maybe(shown.peers.hello(rank));
             text.add(b",\"id\":");
             text.number(u64::from(node.id.0));
+            add_name(text, shown.names.at(rank));
             text.add(b",\"refused\":");
             text.number(shown.voices.refused(rank));
             add_heard(text, shown.voices.heard(rank));

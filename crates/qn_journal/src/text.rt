@@ -1,9 +1,15 @@
 //! Text that is put together in place; what has no room is left out.
-use arrayvec::ArrayVec;
+use arrayvec::{ArrayString, ArrayVec};
 use qn_base::write_decimal;
+use std::fmt::Write;
+use std::net::SocketAddr;
 
-/// The most bytes of a status: that of 32 nodes whose ids have ten digits, and of which each told something, is shorter.
+/// The most bytes of a status: that of 32 nodes whose ids have ten digits and whose names have 63 bytes, and of which each told something, is
+/// shorter.
 const TEXT: usize = 12_288;
+
+/// The most bytes of an address with its port, of IPv6 with a number of its interface.
+const ADDRESS: usize = 64;
 
 /// A text while it is put together.
 #[derive(Drop)]
@@ -43,6 +49,25 @@ impl Text {
             Some(number) => self.number(number),
             None => self.add(b"null"),
         }
+    }
+
+    /// A text as a string of JSON, of which the quote and the backslash stand behind a backslash (RFC 8259, section 7). It has no control character.
+    pub(crate) fn string(&mut self, text: &str) {
+        self.add(b"\"");
+        for byte in text.as_bytes() {
+            if matches!(*byte, b'"' | b'\\') {
+                self.add(b"\\");
+            }
+            self.add(&[*byte]);
+        }
+        self.add(b"\"");
+    }
+
+    /// An address and its port as a string of JSON.
+    pub(crate) fn address(&mut self, at: SocketAddr) {
+        let mut spelling = ArrayString::<ADDRESS>::new();
+        let _ = write!(spelling, "{at}");
+        self.string(spelling.as_str());
     }
 
     pub(crate) fn as_slice(&self) -> &[u8] {

@@ -6,7 +6,7 @@ use Rattle.std.specs.declared.net.ip_addr.IpAddr.{IpAddr}
 use Rattle.qn_base.specs.Decimal.{number_of}
 use Rattle.qn_links.specs.declared.arbiter.ArbiterFault.{ArbiterFault}
 use Rattle.qn_links.specs.declared.arbiter.ArbiterFault.TheVariants.{NoHost, NotAddress, OtherFamily, NotPort}
-use Rattle.qn_links.specs.declared.sections.DeviceNet.{DeviceNet}
+use Rattle.qn_links.specs.declared.device.DeviceNet.{DeviceNet}
 use Rattle.qn_links.specs.Links.{Writes}
 
 -- what is written as `host`, and as `port`, where it is

@@ -1,4 +1,6 @@
-pub mod Arbiters
 pub mod Links
 pub mod Faults
+pub mod Arbiters
+pub mod Devices
 pub mod Meaning
+pub mod Names

@@ -2,8 +2,8 @@
 ghost use Rattle.std.specs.Prelude.{◌≡◌, ◌↔◌, IfOk, IfErr, IsTrue};
 ghost use Rattle.qn_links.specs.Arbiters.{HasHost, HasNoPlace, HasPort, IsOfFamily, port_in};
 
+use crate::device::DeviceNet;
 use crate::links::{Links, address_of_machine};
-use crate::sections::DeviceNet;
 use qn_base::read_decimal;
 use std::fmt;
 use std::fmt::Display;

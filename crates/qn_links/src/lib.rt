@@ -6,19 +6,24 @@
 //! Promises: `links_of` gives, at the place of each rank and at no other, the address that the first section of the node of that rank writes;
 //! these are addresses of one machine each, no two are one, and all are of one family. Where that is not so, it names the first fault. `arbiter_of`
 //! gives the address that is written as the host and the port that is written, or names the first fault. `meaning_of` writes what a settings text
-//! says, in bytes that are equal exactly where it is (`law_one_meaning`).
+//! says, in bytes that are equal exactly where it is (`law_one_meaning`). `name_of` gives a name that the node's section writes, or that it cannot be
+//! shown.
 #![tactic(auto)]
 
 mod arbiter;
+mod device;
 mod fault;
 mod laws;
 mod links;
 mod meaning;
+mod names;
 mod sections;
 
 pub use arbiter::{ArbiterFault, ArbiterPlace, arbiter_of};
+pub use device::{DeviceNet, device_of};
 pub use fault::LinksFault;
 pub use laws::law_one_meaning;
 pub use links::{Links, links_of};
 pub use meaning::{MEANING, Meaning, meaning_of};
-pub use sections::{DeviceNet, NodeSection, device_of, sections_of};
+pub use names::{MOST_NAME, NameFault, name_of};
+pub use sections::{NodeSection, sections_of};

@@ -9,10 +9,10 @@ use Rattle.qn_model.specs.declared.entries.What.{What}
 use Rattle.qn_model.specs.declared.packets.Sent.{Sent}
 use Rattle.qn_model.specs.Log.{now}
 use Rattle.qn_safety.specs.declared.polls.Poll.{Poll}
-use Rattle.qn_member.specs.Announcing.{after_hello_due, is_beat, is_hello_due, view_to_announce}
-use Rattle.qn_member.specs.Maker.{Maker}
-use Rattle.qn_live.specs.declared.place.Greeting.TheVariants as greeting
-use Rattle.qn_live.specs.Greetings.{is_due, maker_of, sends_plan, to_send}
+use Rattle.qn_member.specs.Naming.{NamingMaker}
+use Rattle.qn_member.specs.Announcing.{is_beat}
+use Rattle.qn_member.specs.NamingViews.{after_naming_hello_due, is_naming_hello_due, view_announced}
+use Rattle.qn_live.specs.Greetings.{hellos_where, is_due, maker_of, sends_plan}
 use Rattle.qn_live.specs.Hellos.{hellos_of, send_call}
 use Rattle.qn_live.specs.Polling.{poll_call, poll_calls, poll_due, poll_plan, polled}
 use Rattle.qn_live.specs.Running.{RunState, Turned, Next}
@@ -28,23 +28,26 @@ sends_made (sent ∷ sents) last (made ∷ calls) value follows =
 
 module _ (s : Settings) (me tick : ℕ) where
   -- the view maker after a Hello
-  abbrev greeted_by : Maker → Bool → Maker
+  abbrev greeted_by : NamingMaker → Bool → NamingMaker
   greeted_by m due =
       if due
       then record m {
-        last_hello = if is_beat tick m then Some tick else m.last_hello;
-        told = Some (record { tick = tick; said = m.says; view = view_to_announce m });
+        maker = record m.maker {
+          last_hello = if is_beat tick m.maker then Some tick else m.maker.last_hello;
+          told = Some (record { tick = tick; said = m.maker.says; view = view_announced m });
+        };
+        told_stands = m.stands;
       }
       else m
 
-  some_due : (m : Maker) → is_hello_due tick m ≡ true
-      → (if is_due tick (Some m) then to_send s me (option_map (after_hello_due tick) (Some m)) greeting.Hello 0 else []) ≡ hellos_of s me m
-  some_due m due = ap (λ d. if d then to_send s me (Some (greeted_by m d)) greeting.Hello 0 else []) due
+  some_due : (m : NamingMaker) → is_naming_hello_due tick m ≡ true
+      → hellos_where (is_due tick (Some m)) s me (option_map (after_naming_hello_due tick) (Some m)) ≡ hellos_of s me m
+  some_due m due = ap (λ d. hellos_where d s me (Some (greeted_by m d))) due
 
-  maker_due : (maker : Option Maker) (m : Maker) → maker ≡ Some m → is_hello_due tick m ≡ true
-      → (if is_due tick maker then to_send s me (option_map (after_hello_due tick) maker) greeting.Hello 0 else []) ≡ hellos_of s me m
+  maker_due : (maker : Option NamingMaker) (m : NamingMaker) → maker ≡ Some m → is_naming_hello_due tick m ≡ true
+      → hellos_where (is_due tick maker) s me (option_map (after_naming_hello_due tick) maker) ≡ hellos_of s me m
   maker_due maker m is due =
-      ap (λ found. if is_due tick found then to_send s me (option_map (after_hello_due tick) found) greeting.Hello 0 else []) is ∙ some_due m due
+      ap (λ found. hellos_where (is_due tick found) s me (option_map (after_naming_hello_due tick) found)) is ∙ some_due m due
 
 -- the poll goes first
 poll_made : {A : Type 0} (poll : Option Poll) (sents : List Sent) (last : A) (calls : List Call) (value : A)
@@ -55,13 +58,13 @@ poll_made (Some poll) sents last [] value follows = absurd follows
 poll_made (Some poll) sents last (made ∷ calls) value follows =
     ap (λ c. c ∷ map blank calls) follows.0 ∙ ap (λ rest. poll_call poll ∷ rest) (sends_made sents last calls value follows.1)
 
-pub hellos_made : (s : Settings) (me : ℕ) (entry : What) (st : RunState) (m : Maker) (calls : List Call) (next : RunState) → maker_of s me st ≡ Some m
-    → is_hello_due (now st.log) m ≡ true → Follows (greeted s me entry st) calls (Next next)
+pub hellos_made : (s : Settings) (me : ℕ) (entry : What) (st : RunState) (m : NamingMaker) (calls : List Call) (next : RunState) → maker_of s me st ≡ Some m
+    → is_naming_hello_due (now st.log) m ≡ true → Follows (greeted s me entry st) calls (Next next)
     → map blank calls ≡ poll_calls (poll_due s me true entry (asked_maker s me st)) ++ map send_call (hellos_of s me m)
 unfolding greeted
 hellos_made s me entry st m calls next is due follows =
     let asked = asked_maker s me st in
-    let sents = if greets s me st then to_send s me asked.maker greeting.Hello 0 else [] in
+    let sents = hellos_where (greets s me st) s me asked.maker in
     let is_sent : greets s me st ≡ true = ap (λ found. is_due (now st.log) found) is ∙ due in
     poll_made {A = Turned} (poll_due s me (greets s me st) entry asked) sents (Next (polled s me (greets s me st) entry asked)) calls (Next next) follows
     ∙ ap (λ (g : Bool). poll_calls (poll_due s me g entry asked) ++ map send_call sents) is_sent

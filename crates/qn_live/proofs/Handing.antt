@@ -12,7 +12,8 @@ use Rattle.qn_base.specs.declared.ids.View.{View}
 use Rattle.qn_base.specs.Calls.{blank, is_failed}
 use Rattle.qn_base.specs.Plans.{Plan, Ends, Asks, ◌>>=◌, Follows}
 use Rattle.qn_io.specs.Answered.{bytes_read, received_in, time_of}
-use Rattle.qn_member.specs.Maker.{Maker, view_at}
+use Rattle.qn_member.specs.Naming.{NamingMaker}
+use Rattle.qn_member.specs.NamingViews.{answer_at}
 use Rattle.qn_model.specs.declared.configuration.Settings.{Settings}
 use Rattle.qn_model.specs.declared.entries.Entry.{Entry}
 use Rattle.qn_model.specs.declared.entries.What.{What}
@@ -36,8 +37,8 @@ use Rattle.qn_live.specs.declared.live_end.LiveEnd.TheVariants as end
 use Rattle.qn_live.specs.declared.place.Choice.{Choice}
 use Rattle.qn_live.specs.declared.place.Choice.TheVariants as choice
 use Rattle.qn_live.specs.declared.place.Waits.{Waits}
-use Rattle.qn_live.specs.Choosing.{choice_of, choice_plan, heard, is_entry_for, is_late, is_to_leave, looked, looking, open_plan, packet_in, ready, view_or_tick}
-use Rattle.qn_live.specs.Greetings.{farewell_after, farewells, sends_plan, to_send}
+use Rattle.qn_live.specs.Choosing.{choice_of, choice_plan, is_entry_for, is_late, is_to_leave, looked, looking, open_plan, own_of, packet_in, ready, told, view_or_tick}
+use Rattle.qn_live.specs.Greetings.{farewell_after, farewells, hellos_where, sends_plan}
 use Rattle.qn_live.specs.Handed.{BeginsOnce, HandsHistory, RisesFrom, begins_boot, look_in, looks_in, ticks_of, went_back}
 use Rattle.qn_live.specs.Performing.{disk_answer, disk_call, done, end_in, noted, out_call, outs_plan, own_number, waits_after}
 use Rattle.qn_base.specs.declared.calls.Received.{Received}
@@ -47,9 +48,9 @@ use Rattle.qn_safety.specs.Poller.{Poller, answer_taken}
 use Rattle.qn_live.specs.Polling.{answered, answered_at, choice_beside, is_device, is_reply_for, poll_call, poll_due, poll_plan, polled, reply_in}
 use Rattle.qn_model.specs.declared.entries.What.TheVariants as what
 use Rattle.qn_live.specs.Choosing.{choice_in}
-use Rattle.qn_live.specs.declared.place.Greeting.TheVariants as greeting
+use Rattle.qn_live.specs.declared.words.Own.{Own}
 use Rattle.qn_live.specs.Running.{RunState, Turned, Over, Next, Ran, first_state, later}
-use Rattle.qn_live.specs.Runs.{asked_maker, greets as hello_greets, clocked, greeted, handled, live_plan, parted, run_plan, settled, taken, timed, turn_plan, turns_end}
+use Rattle.qn_live.specs.Runs.{asked_maker, greets as hello_greets, clocked, greeted, handled, live_plan, looked_at, parted, run_plan, settled, taken, timed, turn_plan, turns_end}
 
 -- ## What the clock told in the calls of a plan
 
@@ -181,11 +182,11 @@ look_begins_none : (seen : Option View) → is_begin (view_or_tick seen) ≡ fal
 look_begins_none None = refl
 look_begins_none (Some own) = refl
 
-looked_begins_none : (tick : ℕ) (chosen : Choice) (maker : Option Maker) → NoBeginIn chosen → is_begin (looked tick chosen maker).1 ≡ false
-looked_begins_none tick (choice.Whole entry) maker none = none
-looked_begins_none tick (choice.Open p) None none = refl
-looked_begins_none tick (choice.Answer reply) maker none = refl
-looked_begins_none tick (choice.Open p) (Some m) none = look_begins_none (view_at tick (heard tick p m))
+looked_begins_none : (tick : ℕ) (own : Own) (chosen : Choice) (maker : Option NamingMaker) → NoBeginIn chosen → is_begin (looked tick own chosen maker).1 ≡ false
+looked_begins_none tick own (choice.Whole entry) maker none = none
+looked_begins_none tick own (choice.Open p) None none = refl
+looked_begins_none tick own (choice.Answer reply) maker none = refl
+looked_begins_none tick own (choice.Open p) (Some m) none = look_begins_none (answer_at tick (told tick own p m))
 
 packet_begins_none : (p : Packet) → is_begin (entry_of p) ≡ false
 packet_begins_none (packet.Ask ask) = refl
@@ -377,7 +378,7 @@ module _ (s : Settings) (me : ℕ) (clean : Bool) where
   unfolding greeted
   told_greeted looks entry st is none =
       let asked = asked_maker s me st in
-      let sents = if hello_greets s me st then to_send s me asked.maker greeting.Hello 0 else [] in
+      let sents = hellos_where (hello_greets s me st) s me asked.maker in
       let poll = poll_due s me (hello_greets s me st) entry asked in
       let next = polled s me (hello_greets s me st) entry asked in
       told_then (Nothing looks) Turns looks (poll_plan poll) (λ told. sends_plan sents >>= (λ sent. Ends (Next next))) (told_poll looks poll)
@@ -401,7 +402,7 @@ module _ (s : Settings) (me : ℕ) (clean : Bool) where
       of_end None forward = told_greeted looks entry st is none
       of_end (Some end) forward = told_parted looks end st is forward
 
-  told_handled : (looks : List ℕ) (st : RunState) (tick : ℕ) (found : Option Maker × What)
+  told_handled : (looks : List ℕ) (st : RunState) (tick : ℕ) (found : Option NamingMaker × What)
       → Handed looks (with_entry s me st.log (record { tick = tick; what = found.1 })) → NoBegin st.waits.disk
       → Told Turns looks (handled s me st tick found)
   unfolding handled
@@ -419,13 +420,13 @@ module _ (s : Settings) (me : ℕ) (clean : Bool) where
     where
       of_test : (back : Bool) → nat_lt tick (now chosen.1.log) ≡ back
           → Told Turns (looks ++ tick ∷ []) (if back then Ends (Over (end.ClockBack (now chosen.1.log) tick) chosen.1.log)
-          else handled s me (looking tick (answered tick chosen)) tick (looked tick (answered tick chosen).0 chosen.1.maker))
+          else handled s me (looking tick (answered tick chosen)) tick (looked_at tick (answered tick chosen)))
       of_test true back = ended_back looks tick chosen.1.log is
       of_test false onward =
           let later : now chosen.1.log ≤ tick = grind (arith, nat_tests) in
-          let found = looked tick (answered tick chosen).0 chosen.1.maker in
+          let found = looked_at tick (answered tick chosen) in
           told_handled (looks ++ tick ∷ []) (looking tick (answered tick chosen)) tick found
-          (handed_more looks chosen.1.log (record { tick = tick; what = found.1 }) is (looked_begins_none tick (answered tick chosen).0 chosen.1.maker (answered_begins_none tick chosen.1.poller chosen.0 entry)) later) none
+          (handed_more looks chosen.1.log (record { tick = tick; what = found.1 }) is (looked_begins_none tick (own_of (looking tick (answered tick chosen))) (answered tick chosen).0 chosen.1.maker (answered_begins_none tick chosen.1.poller chosen.0 entry)) later) none
 
   told_first : (polls : Option ℕ) (tick : ℕ) → Told Turns (tick ∷ []) (clocked s me (choice.Whole (begin_of clean), first_state polls) tick)
   unfolding clocked

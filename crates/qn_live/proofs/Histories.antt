@@ -17,14 +17,14 @@ use Rattle.qn_model.specs.Log.{Line, now}
 use Rattle.qn_model.specs.Moments.{begin_of}
 use Rattle.qn_model.specs.NodeOutputs.{log_from, newest_outs, with_entry}
 use Rattle.qn_model.specs.lemmas.Logs.{log_from-more}
-use Rattle.qn_member.specs.Maker.{Maker}
+use Rattle.qn_member.specs.Naming.{NamingMaker}
 use Rattle.qn_live.specs.declared.live_end.LiveEnd.{LiveEnd}
 use Rattle.qn_live.specs.declared.live_end.LiveEnd.TheVariants as end
 use Rattle.qn_live.specs.declared.place.Choice.{Choice}
 use Rattle.qn_live.specs.declared.place.Choice.TheVariants as choice
 use Rattle.qn_live.specs.declared.place.Waits.{Waits}
-use Rattle.qn_live.specs.Choosing.{choice_of, choice_plan, failed_answer, is_late, is_to_leave, looked, looking, open_plan, packet_in, ready}
-use Rattle.qn_live.specs.Greetings.{sends_plan, to_send}
+use Rattle.qn_live.specs.Choosing.{choice_of, choice_plan, failed_answer, is_late, is_to_leave, looking, open_plan, packet_in, ready}
+use Rattle.qn_live.specs.Greetings.{hellos_where, sends_plan}
 use Rattle.qn_live.specs.Laws.{IsHistory, takes_answer}
 use Rattle.qn_live.specs.Performing.{end_in, noted, outs_plan}
 use Rattle.qn_base.specs.declared.calls.Received.{Received}
@@ -33,9 +33,8 @@ use Rattle.qn_safety.specs.declared.polls.Reply.{Reply}
 use Rattle.qn_safety.specs.Poller.{Poller}
 use Rattle.qn_live.specs.Polling.{answered, choice_beside, is_device, is_reply_for, poll_due, poll_plan, polled, reply_in}
 use Rattle.qn_live.specs.Choosing.{choice_in}
-use Rattle.qn_live.specs.declared.place.Greeting.TheVariants as greeting
 use Rattle.qn_live.specs.Running.{RunState, Turned, Over, Next, Ran, first_state, later}
-use Rattle.qn_live.specs.Runs.{asked_maker, greets as hello_greets, clocked, greeted, handled, live_plan, parted, run_plan, settled, taken, timed, turn_plan}
+use Rattle.qn_live.specs.Runs.{asked_maker, greets as hello_greets, clocked, greeted, handled, live_plan, looked_at, parted, run_plan, settled, taken, timed, turn_plan}
 use Rattle.qn_live.proofs.Always.{Always, always_follows, always_then}
 
 one_more : (s : Settings) (me : ℕ) (log : List Line) (entry : Entry) → IsHistory s me log → IsHistory s me (with_entry s me log entry)
@@ -69,7 +68,7 @@ greeted_always : (s : Settings) (me : ℕ) (entry : What) (st : RunState) (log :
 unfolding greeted
 greeted_always s me entry st log rests is_log is_rests =
     let asked = asked_maker s me st in
-    let sents = if hello_greets s me st then to_send s me asked.maker greeting.Hello 0 else [] in
+    let sents = hellos_where (hello_greets s me st) s me asked.maker in
     let poll = poll_due s me (hello_greets s me st) entry asked in
     let next = polled s me (hello_greets s me st) entry asked in
     always_then (λ told. Unit {0}) (EndsFrom log rests) (poll_plan poll) (λ told. sends_plan sents >>= (λ sent. Ends (Next next))) (poll_always poll)
@@ -89,7 +88,7 @@ settled_always s me entry outs st log rests is_log is_rests =
     by_end None = greeted_always s me entry st log rests is_log is_rests
     by_end (Some end) = parted_always s me end st log rests is_log
 
-handled_always : (s : Settings) (me : ℕ) (st : RunState) (tick : ℕ) (found : Option Maker × What) → Always (EndsFrom (with_entry s me st.log (record { tick = tick; what = found.1 })) (failed_answer found.1)) (handled s me st tick found)
+handled_always : (s : Settings) (me : ℕ) (st : RunState) (tick : ℕ) (found : Option NamingMaker × What) → Always (EndsFrom (with_entry s me st.log (record { tick = tick; what = found.1 })) (failed_answer found.1)) (handled s me st tick found)
 unfolding handled
 handled_always s me st tick found =
     let after = taken s me st tick found in
@@ -115,10 +114,10 @@ unfolding clocked
 clocked_always s me chosen tick is =
     by_clock (nat_lt tick (now chosen.1.log))
   where
-    by_clock : (back : Bool) → Always (KeepsHistory s me) (if back then Ends (Over (end.ClockBack (now chosen.1.log) tick) chosen.1.log) else handled s me (looking tick (answered tick chosen)) tick (looked tick (answered tick chosen).0 chosen.1.maker))
+    by_clock : (back : Bool) → Always (KeepsHistory s me) (if back then Ends (Over (end.ClockBack (now chosen.1.log) tick) chosen.1.log) else handled s me (looking tick (answered tick chosen)) tick (looked_at tick (answered tick chosen)))
     by_clock true = is
     by_clock false =
-        let found = looked tick (answered tick chosen).0 chosen.1.maker in
+        let found = looked_at tick (answered tick chosen) in
         always_from s me (with_entry s me chosen.1.log (record { tick = tick; what = found.1 })) (failed_answer found.1) (handled s me (looking tick (answered tick chosen)) tick found)
         (one_more s me chosen.1.log (record { tick = tick; what = found.1 }) is)
         (handled_always s me (looking tick (answered tick chosen)) tick found)
@@ -170,7 +169,7 @@ live_always s me clean leave polls turns =
     (after_turn s me (run_plan s me leave 2 (turns - 1)) (λ next kept. run_always s me leave 2 (turns - 1) next kept))
 
 -- a turn that goes on says whether its entry was a failed answer of the disk
-pub handled_rests : (s : Settings) (me : ℕ) (st : RunState) (tick : ℕ) (found : Option Maker × What) (calls : List Call) (next : RunState) → Follows (handled s me st tick found) calls (Next next) → next.rests ≡ failed_answer found.1
+pub handled_rests : (s : Settings) (me : ℕ) (st : RunState) (tick : ℕ) (found : Option NamingMaker × What) (calls : List Call) (next : RunState) → Follows (handled s me st tick found) calls (Next next) → next.rests ≡ failed_answer found.1
 handled_rests s me st tick found calls next follows =
     let kept = always_follows (EndsFrom (with_entry s me st.log (record { tick = tick; what = found.1 })) (failed_answer found.1)) (handled s me st tick found) calls (Next next) (handled_always s me st tick found) follows in
     kept.1

@@ -12,12 +12,13 @@ use Rattle.qn_base.specs.Plans.{Plan, Ends, Asks, ◌>>=◌, question, left}
 use Rattle.qn_model.specs.declared.configuration.Settings.{Settings}
 use Rattle.qn_model.specs.declared.entries.What.{What}
 use Rattle.qn_model.specs.declared.outputs.Out.{Out}
+use Rattle.qn_model.specs.Holding.{holds}
 use Rattle.qn_model.specs.Log.{Line, now}
 use Rattle.qn_model.specs.Moments.{begin_of}
 use Rattle.qn_model.specs.NodeOutputs.{newest_outs, with_entry}
 use Rattle.qn_model.specs.Wanted.{rank_of}
-use Rattle.qn_member.specs.Announcing.{after_hello_due}
-use Rattle.qn_member.specs.Maker.{Maker}
+use Rattle.qn_member.specs.Naming.{NamingMaker}
+use Rattle.qn_member.specs.NamingViews.{after_naming_hello_due}
 use Rattle.qn_live.specs.declared.live_end.LiveEnd.{LiveEnd}
 use Rattle.qn_live.specs.declared.live_end.LiveEnd.TheVariants as end
 use Rattle.qn_live.specs.declared.place.Choice.{Choice}
@@ -25,6 +26,7 @@ use Rattle.qn_live.specs.declared.place.Choice.TheVariants as choice
 use Rattle.qn_live.specs.declared.place.Greeting.{Greeting}
 use Rattle.qn_live.specs.declared.place.Greeting.TheVariants as greeting
 use Rattle.qn_live.specs.declared.place.Waits.{Waits}
+use Rattle.qn_live.specs.declared.words.Words.{Words}
 use Rattle.qn_live.specs.declared.run.NodeRun.{NodeRun}
 use Rattle.qn_safety.specs.Poller.{Poller}
 use Rattle.qn_live.specs.Polling.{answered_at, answered, poll_due, poll_plan, polled, poller_after, polls_after}
@@ -33,12 +35,13 @@ use Rattle.qn_base.specs.declared.calls.Received.{Received}
 use Rattle.qn_polls.specs.declared.poller.Poller.{Poller as CodePoller}
 use Rattle.qn_polls.specs.Poller.{poller_of}
 use Rattle.qn_live.specs.Choosing.{choice_in, choice_plan, choice_where, failed_answer, heard_request, is_late, is_to_leave, look_after, looked, looking, open_plan, ready, receive_plan}
-use Rattle.qn_live.specs.Greetings.{farewell_after, farewells, greeting_call, greeting_packet, is_due, maker_of, others_from, sends_plan, to_each, to_send}
+use Rattle.qn_live.specs.Greetings.{farewell_after, farewells, greeting_call, greeting_packet, hellos_where, is_due, maker_of, others_from, sends_plan, to_each, to_send}
 use Rattle.qn_safety.specs.declared.polls.Poll.{Poll}
 use Rattle.qn_live.specs.Machine.{SameBeside, Stands, polling, RunFor, acting, next_of, parting, saying, state_of}
 use Rattle.qn_live.specs.Performing.{end_in, noted, out_call, outs_plan, own_number}
 use Rattle.qn_live.specs.Running.{RunState, Turned, Over, Next, Ran, first_state, later}
-use Rattle.qn_live.specs.Runs.{clocked, greeted, handled, live_plan, loop_after, parted, run_plan, settled, timed, turn_plan, turns_end}
+use Rattle.qn_live.specs.Runs.{clocked, greeted, handled, live_plan, looked_at, loop_after, parted, run_plan, settled, timed, turn_plan, turns_end}
+use Rattle.qn_live.specs.Words.{own_by, words_at}
 
 -- the call that was made is the one that the plan asks for
 pub asked_call : {A : Type 0} {plan : Plan A} {wanted : Call} {rest : Call → Plan A} {made : Call} → plan ≡ Asks wanted rest → question plan ≡ Some made → made ≡ wanted
@@ -114,12 +117,13 @@ module _ (s : Settings) (me : ℕ) where
       let back : nat_lt tick (now st.log) ≡ true = grind (arith, nat_tests) in rw at (rw back refl)
 
   -- the entry at its tick, and its outputs
-  pub clocked_on : (choice : Choice) (st : RunState) (tick : ℕ) (maker : Option Maker) (entry : What) (loop : ℕ) (rests : Bool) (last : ℕ) (poller : Option Poller) (from : ℕ) (outs : List Out) → now st.log ≤ tick → looked tick (answered_at tick st.poller choice) st.maker ≡ (maker, entry) → loop ≡ loop_after entry st.loop_ms → rests ≡ failed_answer entry → last ≡ look_after tick (answered_at tick st.poller choice) st.maker st.last_look → poller ≡ poller_after entry st.poller → from ≡ polls_after tick loop st.log entry st.polls_from → outs ≡ newest_outs (with_entry s me st.log (record { tick = tick; what = entry })) → clocked s me (choice, st) tick ≡ outs_plan s me (record { log = with_entry s me st.log (record { tick = tick; what = entry }); loop_ms = loop; maker = maker; waits = st.waits; rests = rests; last_look = last; asked = st.asked; poller = poller; polls_from = from }) outs >>= settled s me entry outs
+  pub clocked_on : (choice : Choice) (st : RunState) (tick : ℕ) (maker : Option NamingMaker) (entry : What) (loop : ℕ) (rests : Bool) (last : ℕ) (words : Words) (poller : Option Poller) (from : ℕ) (outs : List Out) → now st.log ≤ tick → looked tick (own_by words (holds st.log)) (answered_at tick st.poller choice) st.maker ≡ (maker, entry) → loop ≡ loop_after entry st.loop_ms → rests ≡ failed_answer entry → last ≡ look_after tick (answered_at tick st.poller choice) st.maker st.last_look → words ≡ words_at tick st.loop_ms (holds st.log) st.words → poller ≡ poller_after entry st.poller → from ≡ polls_after tick loop st.log entry st.polls_from → outs ≡ newest_outs (with_entry s me st.log (record { tick = tick; what = entry })) → clocked s me (choice, st) tick ≡ outs_plan s me (record { log = with_entry s me st.log (record { tick = tick; what = entry }); loop_ms = loop; maker = maker; waits = st.waits; rests = rests; last_look = last; asked = st.asked; words = words; poller = poller; polls_from = from }) outs >>= settled s me entry outs
   unfolding clocked handled
-  clocked_on choice st tick maker entry loop rests last poller from outs not_back looks is_loop is_rests is_last is_poller is_from is_outs =
+  clocked_on choice st tick maker entry loop rests last words poller from outs not_back looks is_loop is_rests is_last is_words is_poller is_from is_outs =
       let on : nat_lt tick (now st.log) ≡ false = grind (arith, nat_tests) in
-      let first : clocked s me (choice, st) tick ≡ handled s me (looking tick (answered tick (choice, st))) tick (looked tick (answered_at tick st.poller choice) st.maker) = rw on refl in
-      first ∙ ap (λ found. handled s me (looking tick (answered tick (choice, st))) tick found) looks ∙ rw (is_from, is_loop, is_rests, is_last, is_poller, is_outs) refl
+      let first : clocked s me (choice, st) tick ≡ handled s me (looking tick (answered tick (choice, st))) tick (looked_at tick (answered tick (choice, st))) = rw on refl in
+      let found : looked_at tick (answered tick (choice, st)) ≡ (maker, entry) = ap (λ (w : Words). looked tick (own_by w (holds st.log)) (answered_at tick st.poller choice) st.maker) (sym is_words) ∙ looks in
+      first ∙ ap (λ found. handled s me (looking tick (answered tick (choice, st))) tick found) found ∙ rw (is_from, is_loop, is_rests, is_last, is_words, is_poller, is_outs) refl
 
   module _ (entry : What) (outs : List Out) (st : RunState) where
     -- an output ended the run
@@ -143,11 +147,11 @@ module _ (s : Settings) (me : ℕ) where
   parted_telling how st view some clean = rw some (ap (λ e. sends_plan (farewells s me view 0) >>= (λ sent. Ends (Over e st.log))) clean)
 
   -- the Hellos of a turn, by whether they are due
-  unfoldable pub hellos : RunState → Option Maker → Bool → Plan Turned
+  unfoldable pub hellos : RunState → Option NamingMaker → Bool → Plan Turned
   hellos st maker due =
-      sends_plan (if due then to_send s me maker greeting.Hello 0 else []) >>= (λ sent. Ends (Next (record st { maker = maker })))
+      sends_plan (hellos_where due s me maker) >>= (λ sent. Ends (Next (record st { maker = maker })))
 
-  pub greeted_by : (entry : What) (st : RunState) (tick : ℕ) (present asked : Option Maker) (due : Bool) → tick ≡ now st.log → present ≡ maker_of s me st → asked ≡ option_map (after_hello_due tick) present → due ≡ is_due tick present → greeted s me entry st ≡ poll_plan (poll_due s me due entry (record st { maker = asked })) >>= (λ told. hellos (polled s me due entry (record st { maker = asked })) asked due)
+  pub greeted_by : (entry : What) (st : RunState) (tick : ℕ) (present asked : Option NamingMaker) (due : Bool) → tick ≡ now st.log → present ≡ maker_of s me st → asked ≡ option_map (after_naming_hello_due tick) present → due ≡ is_due tick present → greeted s me entry st ≡ poll_plan (poll_due s me due entry (record st { maker = asked })) >>= (λ told. hellos (polled s me due entry (record st { maker = asked })) asked due)
   unfolding greeted hellos
   greeted_by entry st tick present asked due at is_present is_asked when_due = rw (when_due, is_asked, is_present, at) refl
 
@@ -171,7 +175,7 @@ module _ (s : Settings) (me : ℕ) where
       let count : length s.nodes - to ≡ suc (length s.nodes - (to + 1)) = omega arith in
       ap (λ n. filter (λ rank. not (rank == me)) (range_with_len to n)) count ∙ rw other refl
 
-  pub to_send_more : (maker : Option Maker) (said : Greeting) (to : ℕ) → to < length s.nodes → (to == me) ≡ false → to_send s me maker said to ≡ record { to = rank_of to; packet = greeting_packet me said } ∷ to_send s me maker said (to + 1)
+  pub to_send_more : (maker : Option NamingMaker) (said : Greeting) (to : ℕ) → to < length s.nodes → (to == me) ≡ false → to_send s me maker said to ≡ record { to = rank_of to; packet = greeting_packet me said } ∷ to_send s me maker said (to + 1)
   to_send_more maker said to within other = rw (others_more to within other) refl
 
 module _ (run : NodeRun) (log : List Line) where
@@ -213,15 +217,15 @@ module _ (one other : NodeRun) (only : SameBeside one other) (log : List Line) w
       }
 
   pub saying_beside : (st : RunState) (due : Bool) → state_of other log ≡ st
-      → (sends_plan (if due then to_send one.settings one.me.0 one.member greeting.Hello 0 else []) >>= (λ sent. Ends (Next st))) >>= later (next_of one)
-      ≡ saying other log (if due then to_send other.settings other.me.0 other.member greeting.Hello 0 else [])
+      → (sends_plan (hellos_where due one.settings one.me.0 one.member) >>= (λ sent. Ends (Next st))) >>= later (next_of one)
+      ≡ saying other log (hellos_where due other.settings other.me.0 other.member)
   saying_beside st due same =
-      let f = λ (st : RunState). (sends_plan (if due then to_send other.settings other.me.0 other.member greeting.Hello 0 else []) >>= (λ sent. Ends (Next st))) >>= later (next_of other) in
+      let f = λ (st : RunState). (sends_plan (hellos_where due other.settings other.me.0 other.member) >>= (λ sent. Ends (Next st))) >>= later (next_of other) in
       rw (sym only.settings, sym only.me, sym only.member, sym only.leave_at, sym only.turn, sym only.after) (ap f (sym same))
 
   pub polling_beside : (st : RunState) (poll : Poll) (due : Bool) → state_of other log ≡ st
-      → (poll_plan (Some poll) >>= (λ told. sends_plan (if due then to_send one.settings one.me.0 one.member greeting.Hello 0 else []) >>= (λ sent. Ends (Next st)))) >>= later (next_of one)
+      → (poll_plan (Some poll) >>= (λ told. sends_plan (hellos_where due one.settings one.me.0 one.member) >>= (λ sent. Ends (Next st)))) >>= later (next_of one)
       ≡ polling other log poll due
   polling_beside st poll due same =
-      let f = λ (st : RunState). (poll_plan (Some poll) >>= (λ told. sends_plan (if due then to_send other.settings other.me.0 other.member greeting.Hello 0 else []) >>= (λ sent. Ends (Next st)))) >>= later (next_of other) in
+      let f = λ (st : RunState). (poll_plan (Some poll) >>= (λ told. sends_plan (hellos_where due other.settings other.me.0 other.member) >>= (λ sent. Ends (Next st)))) >>= later (next_of other) in
       rw (sym only.settings, sym only.me, sym only.member, sym only.leave_at, sym only.turn, sym only.after) (ap f (sym same))

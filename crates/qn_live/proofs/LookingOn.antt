@@ -9,19 +9,18 @@ use Rattle.qn_model.specs.declared.entries.What.{What}
 use Rattle.qn_model.specs.declared.outputs.Out.{Out}
 use Rattle.qn_model.specs.Log.{now}
 use Rattle.qn_model.specs.NodeOutputs.{newest_outs}
-use Rattle.qn_member.specs.Maker.{Maker}
+use Rattle.qn_member.specs.Naming.{NamingMaker}
 use Rattle.qn_live.specs.declared.live_end.LiveEnd.{LiveEnd}
 use Rattle.qn_live.specs.declared.live_end.LiveEnd.TheVariants as end
 use Rattle.qn_live.specs.declared.place.Choice.{Choice}
 use Rattle.qn_live.specs.declared.place.Choice.TheVariants as choice
 use Rattle.qn_live.specs.declared.place.Waits.{Waits}
-use Rattle.qn_live.specs.Choosing.{choice_plan, is_late, look_after, looked, looking, open_plan, ready}
+use Rattle.qn_live.specs.Choosing.{choice_plan, is_late, look_after, looking, open_plan, ready}
 use Rattle.qn_live.specs.Performing.{end_in, noted, outs_plan}
-use Rattle.qn_live.specs.declared.place.Greeting.TheVariants as greeting
-use Rattle.qn_live.specs.Greetings.{sends_plan, to_send}
+use Rattle.qn_live.specs.Greetings.{hellos_where, sends_plan}
 use Rattle.qn_live.specs.Polling.{answered, answered_at, poll_due, poll_plan, polled}
 use Rattle.qn_live.specs.Running.{RunState, Turned, Over, Next}
-use Rattle.qn_live.specs.Runs.{asked_maker, clocked, greeted, greets, handled, parted, settled, taken}
+use Rattle.qn_live.specs.Runs.{asked_maker, clocked, greeted, greets, handled, looked_at, parted, settled, taken}
 use Rattle.qn_live.proofs.Always.{Always, always_follows, always_then}
 use Rattle.qn_live.proofs.Histories.{poll_always, sends_always}
 
@@ -46,14 +45,14 @@ settled_look s me entry outs st last is =
     by_end : (found : Option LiveEnd) → Always (LooksFrom last) (option_map_or (λ end. parted s me end st) found (greeted s me entry st))
     by_end None =
         let asked = asked_maker s me st in
-        let sents = if greets s me st then to_send s me asked.maker greeting.Hello 0 else [] in
+        let sents = hellos_where (greets s me st) s me asked.maker in
         let poll = poll_due s me (greets s me st) entry asked in
         let next = polled s me (greets s me st) entry asked in
         always_then (λ told. Unit {0}) (LooksFrom last) (poll_plan poll) (λ told. sends_plan sents >>= (λ sent. Ends (Next next))) (poll_always poll)
         (λ told nothing. always_then (λ sent. Unit {0}) (LooksFrom last) (sends_plan sents) (λ sent. Ends (Next next)) (sends_always sents) (λ sent nothing. is))
     by_end (Some end) = always_then (λ sent. Unit {0}) (LooksFrom last) _ _ (sends_always _) (λ sent nothing. tt)
 
-handled_look : (s : Settings) (me : ℕ) (st : RunState) (tick : ℕ) (found : Option Maker × What) → Always (LooksFrom st.last_look) (handled s me st tick found)
+handled_look : (s : Settings) (me : ℕ) (st : RunState) (tick : ℕ) (found : Option NamingMaker × What) → Always (LooksFrom st.last_look) (handled s me st tick found)
 unfolding handled
 handled_look s me st tick found =
     let after = taken s me st tick found in
@@ -66,9 +65,9 @@ unfolding clocked
 clocked_look s me chosen tick =
     by_clock (nat_lt tick (now chosen.1.log))
   where
-    by_clock : (back : Bool) → Always (LooksFrom (looking tick (answered tick chosen)).last_look) (if back then Ends (Over (end.ClockBack (now chosen.1.log) tick) chosen.1.log) else handled s me (looking tick (answered tick chosen)) tick (looked tick (answered tick chosen).0 chosen.1.maker))
+    by_clock : (back : Bool) → Always (LooksFrom (looking tick (answered tick chosen)).last_look) (if back then Ends (Over (end.ClockBack (now chosen.1.log) tick) chosen.1.log) else handled s me (looking tick (answered tick chosen)) tick (looked_at tick (answered tick chosen)))
     by_clock true = tt
-    by_clock false = handled_look s me (looking tick (answered tick chosen)) tick (looked tick (answered tick chosen).0 chosen.1.maker)
+    by_clock false = handled_look s me (looking tick (answered tick chosen)) tick (looked_at tick (answered tick chosen))
 
 pub look_kept : (s : Settings) (me : ℕ) (choice : Choice) (st : RunState) (tick : ℕ) (calls : List Call) (next : RunState) → Follows (clocked s me (choice, st) tick) calls (Next next)
     → next.last_look ≡ look_after tick (answered_at tick st.poller choice) st.maker st.last_look

@@ -75,7 +75,7 @@ op_found run at op e is =
 -- what is left once the operation was answered so
 pub acted : (run : NodeRun) (log : List Line) (at : ℕ) (op : DiskOp) (made : Call) (answer : What) → disk_answer run.settings op made ≡ answer
     → acting run (noted run.settings (out.Disk op) made (state_of run log)) (at + 1)
-    ≡ acting run (record { log = log; loop_ms = run.loop_ms; maker = run.member; waits = record { stopped = run.waits.stopped; disk = Some answer }; rests = run.rests; last_look = run.last_look; asked = run.asked; poller = option_map poller_of run.poller; polls_from = run.polls_from }) (at + 1)
+    ≡ acting run (record { log = log; loop_ms = run.loop_ms; maker = run.member; waits = record { stopped = run.waits.stopped; disk = Some answer }; rests = run.rests; last_look = run.last_look; asked = run.asked; words = run.words; poller = option_map poller_of run.poller; polls_from = run.polls_from }) (at + 1)
 unfolding waits_after
 acted run log at op made answer is = rw is refl
 

@@ -1,5 +1,5 @@
 -- Runs that were worked by hand, as theorems of the definition.
-use Rattle.std.proofs.Common.{ℕ, true, false, List, [], ◌∷◌, None, refl}
+use Rattle.std.proofs.Common.{ℕ, true, false, ◌+◌, ◌^◌, List, [], ◌∷◌, None, refl}
 use Rattle.qn_base.specs.declared.calls.Call.TheVariants as call
 use Rattle.qn_base.specs.declared.calls.Received.TheVariants as received
 use Rattle.qn_base.specs.Plans.{Follows}
@@ -26,7 +26,9 @@ use Rattle.qn_model.specs.NodeOutputs.{moment, acts, outs_at, with_entry, log_fr
 use Rattle.qn_model.specs.Sectors.{anonymous, header_bytes, header_bytes_in, mail_bytes, slot_bytes}
 use Rattle.qn_model.specs.World.{failed}
 use Rattle.qn_sector.specs.Reading.{header_in, mail_of, slot_of}
-use Rattle.qn_member.specs.Maker.{after_tick, ranks_that, view_at, with_ranks}
+use Rattle.qn_candidate.specs.Candidate.{heaviest}
+use Rattle.qn_member.specs.Maker.{ranks_that, with_ranks}
+use Rattle.qn_member.specs.NamingViews.{after_found, after_look, answer_at as answer_by_name, view_found}
 use Rattle.qn_live.specs.declared.live_end.LiveEnd.TheVariants as end
 use Rattle.qn_live.specs.Choosing.{choice_plan}
 use Rattle.qn_live.specs.Greetings.{sends_plan}
@@ -62,10 +64,10 @@ seven_entries =
     ∷ at 30 (what.Claimed true)
     ∷ at 40 (what.Cleared true)
     ∷ at 50 (what.MailRead (mail.Read message.Empty))
-    ∷ at 60 (what.View (record { id = 1; members = record { 0 = 1 } }))
+    ∷ at 60 (what.View (record { id = 2 ^ 56 + 1; members = record { 0 = 1 } }))
     ∷ []
 
--- seven turns of one node: it boots, installs its first view at the first turn that receives, and starts the resource
+-- seven turns of one node: it boots, installs its first view, which names it, at the first turn that receives, and starts the resource
 starts_in_seven_turns : Follows (live_plan one_node 0 false None None 7)
     (call.Now 0 ∷ call.Read 0 (header_bytes 1 usual_times) true
     ∷ call.Now 10 ∷ call.Feed true ∷ call.Read 1 (slot_bytes 1 (record { incarnation = 0; clean = true })) true
@@ -78,5 +80,5 @@ starts_in_seven_turns : Follows (live_plan one_node 0 false None None 7)
       end = turns_end one_node 0 (log_of one_node 0 seven_entries);
       log = log_of one_node 0 seven_entries;
     })
-unfolding op_out ask_place ask_tick begins_clean slot_number claimed timing view install votes answer_at present_view view_tick is_released expected_votes device_yes phase holds stop_due may_stop told out_time slot_read_since reset_since least_from unmet mail_tick wanted_with_delay moment acts outs_at with_entry log_from header_bytes_in mail_bytes slot_bytes header_in mail_of slot_of failed view_at after_tick ranks_that with_ranks choice_plan sends_plan disk_call done out_call outs_plan waits_after clocked greeted handled parted settled live_plan run_plan
+unfolding op_out ask_place ask_tick begins_clean slot_number claimed timing view install votes answer_at present_view view_tick is_released expected_votes device_yes phase holds stop_due may_stop told out_time slot_read_since reset_since least_from unmet mail_tick wanted_with_delay moment acts outs_at with_entry log_from header_bytes_in mail_bytes slot_bytes header_in mail_of slot_of failed view_found after_found answer_by_name after_look heaviest ranks_that with_ranks choice_plan sends_plan disk_call done out_call outs_plan waits_after clocked greeted handled parted settled live_plan run_plan
 starts_in_seven_turns = (refl, (refl, (refl, (refl, (refl, (refl, (refl, (refl, (refl, (refl, (refl, (refl, (refl, (refl, (refl, (refl, (refl, (refl, (refl, (refl, refl))))))))))))))))))))

@@ -26,8 +26,8 @@ use Rattle.qn_model.specs.Log.{Line, now}
 use Rattle.qn_model.specs.Moments.{begin_of}
 use Rattle.qn_model.specs.NodeOutputs.{newest_outs, with_entry}
 use Rattle.qn_model.specs.Wanted.{rank_of}
-use Rattle.qn_member.specs.Announcing.{view_to_announce}
-use Rattle.qn_member.specs.Maker.{Maker}
+use Rattle.qn_member.specs.Naming.{NamingMaker}
+use Rattle.qn_member.specs.NamingViews.{view_announced}
 use Rattle.qn_wire.specs.Packets.{announce_bytes, has_name, packet_bytes}
 use Rattle.qn_live.specs.declared.live_end.LiveEnd.{LiveEnd}
 use Rattle.qn_live.specs.declared.live_end.LiveEnd.TheVariants as end
@@ -36,15 +36,15 @@ use Rattle.qn_live.specs.declared.place.Choice.TheVariants as choice
 use Rattle.qn_live.specs.declared.place.Greeting.{Greeting}
 use Rattle.qn_live.specs.declared.place.Greeting.TheVariants as greeting
 use Rattle.qn_live.specs.declared.place.Waits.{Waits}
-use Rattle.qn_live.specs.Choosing.{choice_plan, is_late, is_to_leave, looked, looking, open_plan, ready}
-use Rattle.qn_live.specs.Greetings.{farewell_after, farewells, greeting_packet, said_after, sends_plan, to_all, to_each, to_send}
+use Rattle.qn_live.specs.Choosing.{choice_plan, is_late, is_to_leave, looking, open_plan, ready}
+use Rattle.qn_live.specs.Greetings.{farewell_after, farewells, first_greeting, greeting_packet, hellos_where, said_after, sends_plan, to_all, to_each, to_send}
 use Rattle.qn_live.specs.Laws.{if_output, is_greeting, is_output, is_polling, outputs_among, outputs_of}
 use Rattle.qn_live.specs.Performing.{disk_call, end_in, noted, out_call, outs_plan, own_number}
 use Rattle.qn_safety.specs.declared.polls.Poll.{Poll}
 use Rattle.qn_polls.specs.Polls.{poll_bytes}
 use Rattle.qn_live.specs.Polling.{answered, poll_call, poll_due, poll_plan, polled}
 use Rattle.qn_live.specs.Running.{RunState, Turned, Over, Next, Ran, first_state, later}
-use Rattle.qn_live.specs.Runs.{asked_maker, clocked, greeted, greets as hello_greets, handled, live_plan, parted, run_plan, settled, taken, timed, turn_plan}
+use Rattle.qn_live.specs.Runs.{asked_maker, clocked, greeted, greets as hello_greets, handled, live_plan, looked_at, parted, run_plan, settled, taken, timed, turn_plan}
 use Rattle.qn_live.proofs.Coming.{Acts, Comes, Dies, Halts, Leaves, entry_comes, is_act}
 use Rattle.qn_live.proofs.Through.{AllFit, Through, after_all, through_follows, through_then}
 
@@ -102,11 +102,10 @@ announce_greets from view false = refl
 
 greets : (me : ℕ) (said : Greeting) → is_greeting (packet_bytes (greeting_packet me said)) ≡ true
 unfolding packet_bytes
-greets me greeting.Hello = refl
-greets me (greeting.Heard said) = refl
+greets me (greeting.Hello said standing) = refl
 greets me (greeting.Announce view) = announce_greets (rank_of me) view (has_name view)
 
-to_send_greets : (s : Settings) (me : ℕ) (maker : Option Maker) (said : Greeting) (from : ℕ) → AllGreet (to_send s me maker said from)
+to_send_greets : (s : Settings) (me : ℕ) (maker : Option NamingMaker) (said : Greeting) (from : ℕ) → AllGreet (to_send s me maker said from)
 to_send_greets s me maker said from =
     append_greet _ _ (each_greets _ _ (greets me said)) (follows said maker)
   where
@@ -114,16 +113,16 @@ to_send_greets s me maker said from =
     by_view None = tt
     by_view (Some view) = each_greets _ _ (greets me (greeting.Announce view))
 
-    follows : (said : Greeting) (maker : Option Maker) → AllGreet (said_after s me maker said)
-    follows greeting.Hello None = tt
-    follows greeting.Hello (Some m) =
-        append_greet _ _ (each_greets _ _ (greets me (greeting.Heard m.says))) (by_view (option_and_then view_to_announce (Some m)))
-    follows (greeting.Heard said) maker = by_view (option_and_then view_to_announce maker)
+    follows : (said : Greeting) (maker : Option NamingMaker) → AllGreet (said_after s me maker said)
+    follows (greeting.Hello said standing) maker = by_view (option_and_then view_announced maker)
     follows (greeting.Announce view) maker = tt
 
-due_greets : (due : Bool) (sents : List Sent) → AllGreet sents → AllGreet (if due then sents else [])
-due_greets true sents all = all
-due_greets false sents all = tt
+hellos_greet : (due : Bool) (s : Settings) (me : ℕ) (maker : Option NamingMaker) → AllGreet (hellos_where due s me maker)
+hellos_greet due s me maker = by_first (first_greeting due maker)
+  where
+    by_first : (first : Option Greeting) → AllGreet (option_map_or (λ first. to_send s me maker first 0) first [])
+    by_first None = tt
+    by_first (Some first) = to_send_greets s me maker first 0
 
 -- nothing was added
 abbrev Same : {A : Type 0} → List Call → List Call → A → Type 0
@@ -211,14 +210,14 @@ greeted_told : (s : Settings) (me : ℕ) (entry : What) (st : RunState) (done : 
 unfolding greeted
 greeted_told s me entry st done is =
     let asked = asked_maker s me st in
-    let sents = if hello_greets s me st then to_send s me asked.maker greeting.Hello 0 else [] in
+    let sents = hellos_where (hello_greets s me st) s me asked.maker in
     let poll = poll_due s me (hello_greets s me st) entry asked in
     let next = polled s me (hello_greets s me st) entry asked in
     through_then AnyCall told_more (Same {A = Unit {0}} done) (ToldTurn s me) done (poll_plan poll) (λ told. sends_plan sents >>= (λ sent. Ends (Next next)))
     (poll_told done poll)
     (λ told nothing same.
     through_then AnyCall told_more (Same {A = Unit {0}} told) (ToldTurn s me) told (sends_plan sents) (λ sent. Ends (Next next))
-    (sends_told told sents (due_greets (hello_greets s me st) _ (to_send_greets s me asked.maker greeting.Hello 0)))
+    (sends_told told sents (hellos_greet (hello_greets s me st) s me asked.maker))
     (λ after sent kept. kept ∙ (same ∙ is)))
 
 farewell_greets : (s : Settings) (me : ℕ) (view : Option View) → AllGreet (option_map_or (λ view. farewells s me view 0) view [])
@@ -246,7 +245,7 @@ outputs_more : (s : Settings) (me : ℕ) (log : List Line) (entry : Entry) → o
 unfolding with_entry
 outputs_more s me log entry = refl
 
-handled_told : (s : Settings) (me : ℕ) (st : RunState) (tick : ℕ) (found : Option Maker × What) (done : List Call) → done ≡ outputs_of s me st.log → Telling (ToldTurn s me) done (handled s me st tick found)
+handled_told : (s : Settings) (me : ℕ) (st : RunState) (tick : ℕ) (found : Option NamingMaker × What) (done : List Call) → done ≡ outputs_of s me st.log → Telling (ToldTurn s me) done (handled s me st tick found)
 unfolding handled
 handled_told s me st tick found done is =
     let entry : Entry = record { tick = tick; what = found.1 } in
@@ -264,9 +263,9 @@ unfolding clocked
 clocked_told s me chosen tick done is =
     by_clock (nat_lt tick (now chosen.1.log))
   where
-    by_clock : (back : Bool) → Telling (ToldTurn s me) done (if back then Ends (Over (end.ClockBack (now chosen.1.log) tick) chosen.1.log) else handled s me (looking tick (answered tick chosen)) tick (looked tick (answered tick chosen).0 chosen.1.maker))
+    by_clock : (back : Bool) → Telling (ToldTurn s me) done (if back then Ends (Over (end.ClockBack (now chosen.1.log) tick) chosen.1.log) else handled s me (looking tick (answered tick chosen)) tick (looked_at tick (answered tick chosen)))
     by_clock true = is
-    by_clock false = handled_told s me (looking tick (answered tick chosen)) tick (looked tick (answered tick chosen).0 chosen.1.maker) done is
+    by_clock false = handled_told s me (looking tick (answered tick chosen)) tick (looked_at tick (answered tick chosen)) done is
 
 timed_told : (s : Settings) (me : ℕ) (chosen : Choice × RunState) (done : List Call) → done ≡ outputs_of s me chosen.1.log → Telling (ToldTurn s me) done (timed s me chosen)
 timed_told s me chosen done is = λ made asked fits.

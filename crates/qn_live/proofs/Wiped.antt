@@ -6,7 +6,7 @@ use Rattle.qn_base.specs.declared.calls.Call.{Call}
 use Rattle.qn_base.specs.Calls.{blank}
 use Rattle.qn_base.specs.Plans.{Plan, Ends, Asks, ◌>>=◌}
 use Rattle.qn_io.specs.Answered.{time_of}
-use Rattle.qn_member.specs.Maker.{Maker}
+use Rattle.qn_member.specs.Naming.{NamingMaker}
 use Rattle.qn_model.specs.declared.configuration.Settings.{Settings}
 use Rattle.qn_model.specs.declared.entries.What.{What}
 use Rattle.qn_model.specs.declared.outputs.DiskOp.{DiskOp}
@@ -22,14 +22,13 @@ use Rattle.qn_live.specs.declared.live_end.LiveEnd.TheVariants as end
 use Rattle.qn_live.specs.declared.place.Choice.{Choice}
 use Rattle.qn_live.specs.declared.place.Choice.TheVariants as choice
 use Rattle.qn_live.specs.declared.place.Waits.{Waits}
-use Rattle.qn_live.specs.Choosing.{choice_plan, is_late, is_to_leave, looked, looking, open_plan, ready}
-use Rattle.qn_live.specs.Greetings.{sends_plan, to_send}
+use Rattle.qn_live.specs.Choosing.{choice_plan, is_late, is_to_leave, looking, open_plan, ready}
+use Rattle.qn_live.specs.Greetings.{hellos_where, sends_plan}
 use Rattle.qn_live.specs.Performing.{disk_call, end_in, noted, out_call, outs_plan, own_number}
 use Rattle.qn_safety.specs.declared.polls.Poll.{Poll}
 use Rattle.qn_live.specs.Polling.{answered, poll_due, poll_plan, polled}
-use Rattle.qn_live.specs.declared.place.Greeting.TheVariants as greeting
 use Rattle.qn_live.specs.Running.{RunState, Turned, Over, Next, Ran, first_state, later}
-use Rattle.qn_live.specs.Runs.{asked_maker, greets as hello_greets, clocked, greeted, handled, live_plan, parted, run_plan, settled, taken, timed, turn_plan}
+use Rattle.qn_live.specs.Runs.{asked_maker, greets as hello_greets, clocked, greeted, handled, live_plan, looked_at, parted, run_plan, settled, taken, timed, turn_plan}
 
 -- each question is wiped
 abbrev pub AsksWiped : {A : Type 0} → Plan A → Type 0
@@ -79,7 +78,7 @@ greeted_wiped : (s : Settings) (me : ℕ) (entry : What) (st : RunState) → Ask
 unfolding greeted
 greeted_wiped s me entry st =
     let asked = asked_maker s me st in
-    let sents = if hello_greets s me st then to_send s me asked.maker greeting.Hello 0 else [] in
+    let sents = hellos_where (hello_greets s me st) s me asked.maker in
     let poll = poll_due s me (hello_greets s me st) entry asked in
     let next = polled s me (hello_greets s me st) entry asked in
     wiped_then (poll_plan poll) (λ told. sends_plan sents >>= (λ sent. Ends (Next next))) (poll_wiped poll) (λ told. wiped_then (sends_plan sents) (λ sent. Ends (Next next)) (sends_wiped sents) (λ sent. tt))
@@ -97,7 +96,7 @@ settled_wiped s me entry outs st =
     by_end None = greeted_wiped s me entry st
     by_end (Some end) = parted_wiped s me end st
 
-handled_wiped : (s : Settings) (me : ℕ) (st : RunState) (tick : ℕ) (found : Option Maker × What) → AsksWiped (handled s me st tick found)
+handled_wiped : (s : Settings) (me : ℕ) (st : RunState) (tick : ℕ) (found : Option NamingMaker × What) → AsksWiped (handled s me st tick found)
 unfolding handled
 handled_wiped s me st tick found =
     let after = taken s me st tick found in
@@ -110,9 +109,9 @@ unfolding clocked
 clocked_wiped s me chosen tick =
     by_clock (nat_lt tick (now chosen.1.log))
   where
-    by_clock : (back : Bool) → AsksWiped (if back then Ends (Over (end.ClockBack (now chosen.1.log) tick) chosen.1.log) else handled s me (looking tick (answered tick chosen)) tick (looked tick (answered tick chosen).0 chosen.1.maker))
+    by_clock : (back : Bool) → AsksWiped (if back then Ends (Over (end.ClockBack (now chosen.1.log) tick) chosen.1.log) else handled s me (looking tick (answered tick chosen)) tick (looked_at tick (answered tick chosen)))
     by_clock true = tt
-    by_clock false = handled_wiped s me (looking tick (answered tick chosen)) tick (looked tick (answered tick chosen).0 chosen.1.maker)
+    by_clock false = handled_wiped s me (looking tick (answered tick chosen)) tick (looked_at tick (answered tick chosen))
 
 timed_wiped : (s : Settings) (me : ℕ) (chosen : Choice × RunState) → AsksWiped (timed s me chosen)
 timed_wiped s me chosen = (refl, λ call. clocked_wiped s me chosen (time_of call))

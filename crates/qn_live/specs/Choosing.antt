@@ -17,16 +17,20 @@ use Rattle.qn_model.specs.declared.seen.MailSeen.{MailSeen}
 use Rattle.qn_model.specs.declared.seen.MailSeen.TheVariants as mail
 use Rattle.qn_model.specs.declared.entries.What.{What}
 use Rattle.qn_model.specs.declared.entries.What.TheVariants as what
+use Rattle.qn_model.specs.Holding.{holds}
 use Rattle.qn_model.specs.Log.{now}
 use Rattle.qn_model.specs.Phases.{phase, is_up}
 use Rattle.qn_model.specs.Steps.{entry_of}
 use Rattle.qn_wire.specs.Reading.{packet_of}
-use Rattle.qn_member.specs.Maker.{Maker, after_announce, after_hello, after_plain_hello, after_tick, view_at}
+use Rattle.qn_member.specs.Naming.{NamingMaker, after_named_announce, after_named_hello, after_named_plain_hello, after_stand, after_standing}
+use Rattle.qn_member.specs.NamingViews.{after_look, answer_at}
 use Rattle.qn_live.specs.declared.place.Choice.{Choice}
 use Rattle.qn_live.specs.declared.place.Choice.TheVariants as choice
 use Rattle.qn_live.specs.declared.place.Waits.{Waits}
+use Rattle.qn_live.specs.declared.words.Own.{Own}
 use Rattle.qn_live.specs.Running.{RunState}
 use Rattle.qn_live.specs.Polling.{choice_beside, reply_in}
+use Rattle.qn_live.specs.Words.{own_by, words_after, words_at}
 use Rattle.qn_safety.specs.Poller.{Poller}
 
 -- what was read could not be read
@@ -111,9 +115,10 @@ is_request (received.Packet bytes) = bytes_eq bytes (81 ∷ 78 ∷ 12 ∷ 1 ∷ 
 is_request received.Nothing = false
 is_request received.Failed = false
 
--- the state after something came
+-- the state after something came: what the host of the node asks and says comes as a packet does
 abbrev pub heard_request : Received → RunState → RunState
-heard_request got st = record st { asked = st.asked || is_request got }
+heard_request got st =
+    record st { asked = st.asked || is_request got; words = words_after (now st.log) got st.words }
 
 -- the last look of the view maker is a loop ago or more
 abbrev pub is_late : RunState → Bool
@@ -133,22 +138,31 @@ choice_plan me leaves st =
     (open_plan me st (is_late st))
 
 -- the tick of the last look, after a turn took this at a tick; while there is no view maker each entry counts as a look
-abbrev pub look_after : ℕ → Choice → Option Maker → ℕ → ℕ
+abbrev pub look_after : ℕ → Choice → Option NamingMaker → ℕ → ℕ
 look_after tick (choice.Open p) maker last = tick
 look_after tick (choice.Whole entry) None last = tick
 look_after tick (choice.Whole entry) (Some m) last = last
 look_after tick (choice.Answer reply) None last = tick
 look_after tick (choice.Answer reply) (Some m) last = last
 
+-- the state at a tick, before what was chosen is taken
 abbrev pub looking : ℕ → Choice × RunState → RunState
-looking tick chosen = record chosen.1 { last_look = look_after tick chosen.0 chosen.1.maker chosen.1.last_look }
+looking tick chosen =
+    record chosen.1 {
+      last_look = look_after tick chosen.0 chosen.1.maker chosen.1.last_look;
+      words = words_at tick chosen.1.loop_ms (holds chosen.1.log) chosen.1.words;
+    }
+
+-- what a node says of itself
+abbrev pub own_of : RunState → Own
+own_of st = own_by st.words (holds st.log)
 
 -- what the view maker hears of a packet
-abbrev pub heard : ℕ → Option Packet → Maker → Maker
+abbrev pub heard : ℕ → Option Packet → NamingMaker → NamingMaker
 heard tick None m = m
-heard tick (Some (packet.Hello from)) m = after_plain_hello tick from.0 m
-heard tick (Some (packet.Heard from said standing)) m = after_hello tick from.0 said m
-heard tick (Some (packet.Announce from view)) m = after_announce from.0 view m
+heard tick (Some (packet.Hello from)) m = after_named_plain_hello tick from.0 m
+heard tick (Some (packet.Heard from said standing)) m = after_standing from.0 standing (after_named_hello tick from.0 said m)
+heard tick (Some (packet.Announce from view)) m = after_named_announce from.0 view m
 heard tick (Some (packet.Ask ask)) m = m
 heard tick (Some (packet.Tell tell)) m = m
 heard tick (Some (packet.Vote agrees)) m = m
@@ -158,10 +172,15 @@ abbrev pub view_or_tick : Option View → What
 view_or_tick None = what.Tick
 view_or_tick (Some view) = what.View view
 
--- the entry of a turn at its tick, and the view maker then: where the choice is open, it hears the packet and looks
-abbrev pub looked : ℕ → Choice → Option Maker → Option Maker × What
-looked tick (choice.Whole entry) maker = (maker, entry)
-looked tick (choice.Answer reply) maker = (maker, what.Tick)
-looked tick (choice.Open p) None = (None, what.Tick)
-looked tick (choice.Open p) (Some m) =
-    (Some (after_tick tick (heard tick p m)), view_or_tick (view_at tick (heard tick p m)))
+-- what the view maker knows where it is to look: it heard the packet, and what its own node says of itself
+abbrev pub told : ℕ → Own → Option Packet → NamingMaker → NamingMaker
+told tick own p m = after_stand own.said own.holds (heard tick p m)
+
+-- The entry of a turn at its tick, and the view maker then, by what the node says of itself: where the choice is open, the view
+-- maker is told that and what came, and looks.
+abbrev pub looked : ℕ → Own → Choice → Option NamingMaker → Option NamingMaker × What
+looked tick own (choice.Whole entry) maker = (maker, entry)
+looked tick own (choice.Answer reply) maker = (maker, what.Tick)
+looked tick own (choice.Open p) None = (None, what.Tick)
+looked tick own (choice.Open p) (Some m) =
+    (Some (after_look tick (told tick own p m)), view_or_tick (answer_at tick (told tick own p m)))

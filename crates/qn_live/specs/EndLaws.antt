@@ -13,7 +13,8 @@ use Rattle.qn_base.specs.Calls.{blank, is_failed, some_failed}
 use Rattle.qn_base.specs.Plans.{Plan, Ends, Asks, ◌>>=◌, Follows}
 use Rattle.qn_base.specs.PlanSteps.{some_failed-append}
 use Rattle.qn_io.specs.Answered.{bytes_read, received_in, time_of}
-use Rattle.qn_member.specs.Maker.{Maker, view_at}
+use Rattle.qn_member.specs.Naming.{NamingMaker}
+use Rattle.qn_member.specs.NamingViews.{answer_at}
 use Rattle.qn_model.specs.declared.configuration.Settings.{Settings}
 use Rattle.qn_model.specs.declared.disk.Slot.{Slot}
 use Rattle.qn_model.specs.declared.mailbox.Mail.{Mail}
@@ -50,8 +51,8 @@ use Rattle.qn_live.specs.declared.place.Choice.{Choice}
 use Rattle.qn_live.specs.declared.place.Choice.TheVariants as choice
 use Rattle.qn_live.specs.declared.place.Waits.{Waits}
 use Rattle.qn_live.specs.CalmOutputs.{calm_boot, calm_live, calm_outs}
-use Rattle.qn_live.specs.Choosing.{choice_of, choice_plan, heard, is_entry_for, is_late, is_to_leave, looked, looking, open_plan, packet_in, ready, view_or_tick}
-use Rattle.qn_live.specs.Greetings.{farewell_after, farewells, sends_plan, to_send}
+use Rattle.qn_live.specs.Choosing.{choice_of, choice_plan, is_entry_for, is_late, is_to_leave, looked, looking, open_plan, own_of, packet_in, ready, told, view_or_tick}
+use Rattle.qn_live.specs.Greetings.{farewell_after, farewells, hellos_where, sends_plan}
 use Rattle.qn_live.specs.Halts.{HaltedBy, IsNewest, is_on_disk, one_call}
 use Rattle.qn_live.specs.Performing.{disk_answer, disk_call, done, end_in, halt_code, noted, out_call, outs_plan, own_number, waits_after}
 use Rattle.qn_base.specs.declared.calls.Received.{Received}
@@ -60,9 +61,9 @@ use Rattle.qn_safety.specs.declared.polls.Reply.{Reply}
 use Rattle.qn_safety.specs.Poller.{Poller, answer_taken}
 use Rattle.qn_live.specs.Polling.{answered, answered_at, choice_beside, is_device, is_reply_for, poll_call, poll_due, poll_plan, polled, reply_in}
 use Rattle.qn_live.specs.Choosing.{choice_in}
-use Rattle.qn_live.specs.declared.place.Greeting.TheVariants as greeting
+use Rattle.qn_live.specs.declared.words.Own.{Own}
 use Rattle.qn_live.specs.Running.{RunState, Turned, Over, Next, Ran, first_state, later}
-use Rattle.qn_live.specs.Runs.{asked_maker, greets as hello_greets, clocked, greeted, handled, live_plan, parted, run_plan, settled, taken, timed, turn_plan}
+use Rattle.qn_live.specs.Runs.{asked_maker, greets as hello_greets, clocked, greeted, handled, live_plan, looked_at, parted, run_plan, settled, taken, timed, turn_plan}
 use Rattle.qn_live.specs.Laws.{NeverFalls, is_by_call, is_by_clock, is_no_failure, is_sound, tick_after}
 
 -- ## What the calls so far tell
@@ -429,7 +430,7 @@ module _ (s : Settings) (me : ℕ) where
   unfolding greeted
   leads_greeted entry st past is waiting =
       let asked = asked_maker s me st in
-      let sents = if hello_greets s me st then to_send s me asked.maker greeting.Hello 0 else [] in
+      let sents = hellos_where (hello_greets s me st) s me asked.maker in
       let poll = poll_due s me (hello_greets s me st) entry asked in
       let next = polled s me (hello_greets s me st) entry asked in
       leads_then (Silent past) Turns past (poll_plan poll) (λ told. sends_plan sents >>= (λ sent. Ends (Next next))) (leads_poll past poll)
@@ -484,7 +485,7 @@ module _ (s : Settings) (me : ℕ) where
       (leads_outs past.tick st.log st outs past refl refl waiting)
       (λ after left kept. leads_settled entry outs left after calm (ap now kept.1 ∙ is ∙ sym kept.0) kept.2)
 
-  leads_handled : (st : RunState) (past : Past) (found : Option Maker × What) → CausedBy s me past.disk found.1
+  leads_handled : (st : RunState) (past : Past) (found : Option NamingMaker × What) → CausedBy s me past.disk found.1
       → Waiting s me past.disk st.waits.disk → Leads Turns past (handled s me st past.tick found)
   unfolding handled
   leads_handled st past found caused waiting =
@@ -501,12 +502,12 @@ module _ (s : Settings) (me : ℕ) where
   caused_look last None = tt
   caused_look last (Some own) = tt
 
-  caused_looked : (last : Option Call) (tick : ℕ) (chosen : Choice) (maker : Option Maker) → CausedChoice last chosen
-      → CausedBy s me last (looked tick chosen maker).1
-  caused_looked last tick (choice.Whole entry) maker caused = caused
-  caused_looked last tick (choice.Open p) None caused = tt
-  caused_looked last tick (choice.Answer reply) maker caused = tt
-  caused_looked last tick (choice.Open p) (Some m) caused = caused_look last (view_at tick (heard tick p m))
+  caused_looked : (last : Option Call) (tick : ℕ) (own : Own) (chosen : Choice) (maker : Option NamingMaker) → CausedChoice last chosen
+      → CausedBy s me last (looked tick own chosen maker).1
+  caused_looked last tick own (choice.Whole entry) maker caused = caused
+  caused_looked last tick own (choice.Open p) None caused = tt
+  caused_looked last tick own (choice.Answer reply) maker caused = tt
+  caused_looked last tick own (choice.Open p) (Some m) caused = caused_look last (answer_at tick (told tick own p m))
 
   -- an answer of the device comes of no call on the disk
   caused_by_device : (last : Option Call) (answer : Option Bool) → CausedChoice last (option_map_or (λ agrees. choice.Whole (what.Device agrees)) answer (choice.Open None))
@@ -525,10 +526,10 @@ module _ (s : Settings) (me : ℕ) where
     where
       of_test : (back : Bool) → (back ≡ true → past.fell ≡ true)
           → Leads Turns past (if back then Ends (Over (end.ClockBack (now chosen.1.log) past.tick) chosen.1.log)
-          else handled s me (looking past.tick (answered past.tick chosen)) past.tick (looked past.tick (answered past.tick chosen).0 chosen.1.maker))
+          else handled s me (looking past.tick (answered past.tick chosen)) past.tick (looked_at past.tick (answered past.tick chosen)))
       of_test true fell = fell refl
       of_test false fell =
-          leads_handled (looking past.tick (answered past.tick chosen)) past (looked past.tick (answered past.tick chosen).0 chosen.1.maker) (caused_looked past.disk past.tick (answered past.tick chosen).0 chosen.1.maker (caused_answered past.disk past.tick chosen.1.poller chosen.0 caused)) waiting
+          leads_handled (looking past.tick (answered past.tick chosen)) past (looked_at past.tick (answered past.tick chosen)) (caused_looked past.disk past.tick (own_of (looking past.tick (answered past.tick chosen))) (answered past.tick chosen).0 chosen.1.maker (caused_answered past.disk past.tick chosen.1.poller chosen.0 caused)) waiting
 
   leads_timed : (chosen : Choice × RunState) (past : Past) → now chosen.1.log ≡ past.tick → CausedChoice past.disk chosen.0
       → Waiting s me past.disk chosen.1.waits.disk → Leads Turns past (timed s me chosen)

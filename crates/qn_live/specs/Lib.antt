@@ -25,3 +25,4 @@ pub mod TripleMachine
 pub mod TripleOperations
 pub mod TripleOutputs
 pub mod TripleRuns
+pub mod Words

@@ -22,11 +22,10 @@ use Rattle.qn_live.specs.declared.run.NodeRun.{NodeRun}
 use Rattle.qn_live.specs.Running.{RunState, Next, Over, Ran, later}
 use Rattle.qn_live.specs.Choosing.{choice_in, heard_request, receive_plan}
 use Rattle.qn_live.specs.Polling.{poll_plan}
-use Rattle.qn_live.specs.declared.place.Greeting.TheVariants as greeting
 use Rattle.qn_polls.specs.Poller.{poller_of}
 use Rattle.qn_safety.specs.declared.polls.Poll.{Poll}
 use Rattle.qn_live.specs.Performing.{outs_plan}
-use Rattle.qn_live.specs.Greetings.{farewells, sends_plan, to_send}
+use Rattle.qn_live.specs.Greetings.{farewells, hellos_where, sends_plan, to_send}
 use Rattle.qn_live.specs.Runs.{clocked, parted, run_plan, settled, timed, turn_plan}
 use Rattle.qn_live.specs.Places.{calls_left}
 
@@ -41,6 +40,7 @@ state_of run log =
       rests = run.rests;
       last_look = run.last_look;
       asked = run.asked;
+      words = run.words;
       poller = option_map poller_of run.poller;
       polls_from = run.polls_from;
     }
@@ -96,7 +96,7 @@ saying run log sents = (sends_plan sents >>= (λ sent. Ends (Next (state_of run 
 abbrev pub polling : NodeRun → List Line → Poll → Bool → Plan Ran
 polling run log poll greets =
     (poll_plan (Some poll)
-    >>= (λ told. sends_plan (if greets then to_send run.settings run.me.0 run.member greeting.Hello 0 else []) >>= (λ sent. Ends (Next (state_of run log)))))
+    >>= (λ told. sends_plan (hellos_where greets run.settings run.me.0 run.member) >>= (λ sent. Ends (Next (state_of run log)))))
     >>= later (next_of run)
 
 -- what is left of the run at a place

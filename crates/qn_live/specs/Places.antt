@@ -17,8 +17,7 @@ pending (place.Over end) = 0
 
 -- at most so many calls a turn makes from here on
 abbrev pub calls_of_greeting : Greeting → ℕ → ℕ
-calls_of_greeting greeting.Hello to = 80 + (33 - to)
-calls_of_greeting (greeting.Heard said) to = 40 + (33 - to)
+calls_of_greeting (greeting.Hello said standing) to = 40 + (33 - to)
 calls_of_greeting (greeting.Announce view) to = 33 - to
 
 -- at most so many calls a run makes from here on, where so many turns follow the present one

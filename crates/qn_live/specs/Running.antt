@@ -2,23 +2,26 @@
 use Rattle.std.specs.Prelude.{ℕ, Bool, false, List, [], Option, None, option_map}
 use Rattle.qn_base.specs.Plans.{Plan, Ends}
 use Rattle.qn_model.specs.Log.{Line}
-use Rattle.qn_member.specs.Maker.{Maker}
+use Rattle.qn_member.specs.Naming.{NamingMaker}
 use Rattle.qn_live.specs.declared.live_end.LiveEnd.{LiveEnd}
 use Rattle.qn_live.specs.declared.place.Waits.{Waits}
+use Rattle.qn_live.specs.declared.words.Words.{Words}
+use Rattle.qn_live.specs.Words.{no_words}
 use Rattle.qn_safety.specs.Poller.{Poller, fresh_poller}
 
 -- What a running node knows between two turns: the log of what it was handed, newest entry first; the loop's time of the
 -- header that it read, 0 before; the view maker of a node that takes part; the answers that wait; whether the turn before
--- took a failed answer of the disk, so that this one takes none; the tick of the last look of the view maker; and whether the
--- host of the node has asked it to leave.
+-- took a failed answer of the disk, so that this one takes none; the tick of the last look of the view maker; whether the host of
+-- the node has asked it to leave; and what that host says of it.
 pub record RunState : Type 0 where
   pub log : List Line
   pub loop_ms : ℕ
-  pub maker : Option Maker
+  pub maker : Option NamingMaker
   pub waits : Waits
   pub rests : Bool
   pub last_look : ℕ
   pub asked : Bool
+  pub words : Words
   -- of a node that polls an arbiter: what it polls with, and the tick from which on it does
   pub poller : Option Poller
   pub polls_from : ℕ
@@ -34,6 +37,7 @@ first_state polls =
       rests = false;
       last_look = 0;
       asked = false;
+      words = no_words;
       poller = option_map fresh_poller polls;
       polls_from = 0;
     }

@@ -14,25 +14,24 @@ use Rattle.qn_model.specs.Moments.{begin_of}
 use Rattle.qn_model.specs.NodeVotes.{answer_with_tie}
 use Rattle.qn_model.specs.NodeOutputs.{newest_outs, with_entry}
 use Rattle.qn_model.specs.Unmet.{unmet}
-use Rattle.qn_member.specs.Announcing.{after_hello_due}
-use Rattle.qn_member.specs.Maker.{Maker}
+use Rattle.qn_member.specs.Naming.{NamingMaker}
+use Rattle.qn_member.specs.NamingViews.{after_naming_hello_due}
 use Rattle.qn_live.specs.declared.live_end.LiveEnd.{LiveEnd}
 use Rattle.qn_live.specs.declared.live_end.LiveEnd.TheVariants as end
 use Rattle.qn_live.specs.declared.place.Choice.{Choice}
 use Rattle.qn_live.specs.declared.place.Choice.TheVariants as choice
-use Rattle.qn_live.specs.declared.place.Greeting.TheVariants as greeting
 use Rattle.qn_live.specs.Polling.{answered, poll_due, poll_plan, polled, poller_after, polls_after}
 use Rattle.qn_live.specs.Running.{RunState, first_state, Turned, Over, Next, Ran, later}
-use Rattle.qn_live.specs.Choosing.{choice_plan, failed_answer, is_to_leave, looked, looking}
+use Rattle.qn_live.specs.Choosing.{choice_plan, failed_answer, is_to_leave, looked, looking, own_of}
 use Rattle.qn_live.specs.Performing.{end_in, outs_plan}
-use Rattle.qn_live.specs.Greetings.{farewell_after, farewells, is_due, maker_of, sends_plan, to_send}
+use Rattle.qn_live.specs.Greetings.{farewell_after, farewells, hellos_where, is_due, maker_of, sends_plan}
 
 -- the loop's time after an entry: that of the header that it gives
 abbrev pub loop_after : What → ℕ → ℕ
 loop_after entry before = option_map_or (λ times. times.loop_ms) (times_of entry) before
 
 -- the state after an entry was taken in, before its outputs
-abbrev pub taken : Settings → ℕ → RunState → ℕ → Option Maker × What → RunState
+abbrev pub taken : Settings → ℕ → RunState → ℕ → Option NamingMaker × What → RunState
 taken s me st tick found =
     record {
       log = with_entry s me st.log (record { tick = tick; what = found.1 });
@@ -42,13 +41,14 @@ taken s me st tick found =
       rests = failed_answer found.1;
       last_look = st.last_look;
       asked = st.asked;
+      words = st.words;
       poller = poller_after found.1 st.poller;
       polls_from = polls_after tick (loop_after found.1 st.loop_ms) st.log found.1 st.polls_from;
     }
 
 -- the state once the view maker was asked at a tick whether a Hello is due
 abbrev pub hello_asked : ℕ → RunState → RunState
-hello_asked tick st = record st { maker = option_map (after_hello_due tick) st.maker }
+hello_asked tick st = record st { maker = option_map (after_naming_hello_due tick) st.maker }
 
 -- the state with the view maker that the node has then
 abbrev pub with_maker : Settings → ℕ → RunState → RunState
@@ -63,13 +63,13 @@ abbrev pub asked_maker : Settings → ℕ → RunState → RunState
 asked_maker s me st = hello_asked (now st.log) (with_maker s me st)
 
 -- the outputs ended nothing: a poll is sent to the arbiter, where one is due; where a Hello is due it is sent to each other
--- node in both its forms, and then the announcement, and the next turn follows
+-- node, and then the announcement, and the next turn follows
 unfoldable pub greeted : Settings → ℕ → What → RunState → Plan Turned
 greeted s me entry st =
     let asked = asked_maker s me st in
     poll_plan (poll_due s me (greets s me st) entry asked)
     >>= (λ told.
-    sends_plan (if greets s me st then to_send s me asked.maker greeting.Hello 0 else [])
+    sends_plan (hellos_where (greets s me st) s me asked.maker)
     >>= (λ sent. Ends (Next (polled s me (greets s me st) entry asked))))
 
 -- an output ended the run: a node that left clean says farewell to each other node, and then the run is over
@@ -83,16 +83,20 @@ unfoldable pub settled : Settings → ℕ → What → List Out → RunState →
 settled s me entry outs st = option_map_or (λ end. parted s me end st) (end_in entry outs) (greeted s me entry st)
 
 -- an entry is taken in at a tick, and its outputs are performed
-unfoldable pub handled : Settings → ℕ → RunState → ℕ → Option Maker × What → Plan Turned
+unfoldable pub handled : Settings → ℕ → RunState → ℕ → Option NamingMaker × What → Plan Turned
 handled s me st tick found =
     let after = taken s me st tick found in
     outs_plan s me after (newest_outs after.log) >>= settled s me found.1 (newest_outs after.log)
+
+-- the entry that was chosen, at its tick, and the view maker then
+abbrev pub looked_at : ℕ → Choice × RunState → Option NamingMaker × What
+looked_at tick chosen = looked tick (own_of (looking tick chosen)) chosen.0 chosen.1.maker
 
 -- the clock was looked at: a clock that goes back ends the run
 unfoldable pub clocked : Settings → ℕ → Choice × RunState → ℕ → Plan Turned
 clocked s me chosen tick =
     if nat_lt tick (now chosen.1.log) then Ends (Over (end.ClockBack (now chosen.1.log) tick) chosen.1.log)
-    else handled s me (looking tick (answered tick chosen)) tick (looked tick (answered tick chosen).0 chosen.1.maker)
+    else handled s me (looking tick (answered tick chosen)) tick (looked_at tick (answered tick chosen))
 
 -- what was chosen becomes the entry of the turn at its tick
 abbrev pub timed : Settings → ℕ → Choice × RunState → Plan Turned

@@ -4,13 +4,14 @@ ghost use Rattle.qn_polls.specs.Poller.{poller_of};
 ghost use Rattle.qn_safety.specs.Poller.{answer_taken};
 ghost use Rattle.qn_live.specs.Polling.{answered_at, choice_beside, reply_in};
 ghost use Rattle.qn_io.specs.Receives.{FitsPacket, received};
-ghost use Rattle.qn_live.specs.Choosing.{choice_of, choice_where, failed_answer, is_entry_for, is_request, look_after, looked, packet_in, ready};
+ghost use Rattle.qn_live.specs.Choosing.{choice_of, choice_where, failed_answer, heard, is_entry_for, is_request, look_after, looked, packet_in, ready};
 ghost use Rattle.qn_live.specs.Runs.{loop_after};
 
 use crate::place::{Choice, Waits};
+use crate::words::Own;
 use qn_base::Rank;
 use qn_io::{Got, PACKET};
-use qn_member::Member;
+use qn_member::NamingMember;
 use qn_model::{HeaderSeen, MailSeen, Packet, SlotSeen, What};
 use qn_polls::{Poller, get_reply};
 use qn_safety::Reply;
@@ -141,29 +142,46 @@ fn choice_of(me: Rank, packet: Option<Packet>) -> Choice
     }
 }
 
-/// The entry of a turn at its tick. Where the choice is open the view maker hears the packet and looks.
-pub fn look(member: &mut Option<Member>, choice: Choice, tick: u64) -> What
-    ensures { looked tick choice member.old ≡ (member.new, result) }
+/// The entry of a turn at its tick, by what the node says of itself. Where the choice is open the view maker is told that and what
+/// came, and looks.
+pub fn look(member: &mut Option<NamingMember>, own: Own, choice: Choice, tick: u64) -> What
+    ensures { looked tick own choice member.old ≡ (member.new, result) }
 {
     match choice {
         Choice::Whole(entry) => entry,
         Choice::Answer(_) => What::Tick,
         Choice::Open(packet) => match member {
-            Some(member) => hear(member, packet, tick),
+            Some(member) => look_after_packet(member, own, packet, tick),
             None => What::Tick,
         },
     }
 }
 
-fn hear(member: &mut Member, packet: Option<Packet>, tick: u64) -> What
-    ensures { looked tick (Choice.Open packet) (Some member.old) ≡ (Some member.new, result) }
+fn hear(member: &mut NamingMember, packet: Option<Packet>, tick: u64)
+    ensures { member.new ≡ heard tick packet member.old }
 {
     match packet {
         Some(Packet::Hello { from }) => member.on_plain_hello(tick, from),
-        Some(Packet::Heard { from, said, .. }) => member.on_hello(tick, from, said),
+        Some(
+            Packet::Heard {
+                from,
+                said,
+                standing,
+            },
+        ) => {
+            member.on_hello(tick, from, said);
+            member.on_standing(from, standing);
+        }
         Some(Packet::Announce { from, view }) => member.on_announce(tick, from, view),
         Some(Packet::Ask(_) | Packet::Tell(_) | Packet::Vote { .. }) | None => {}
     }
+}
+
+fn look_after_packet(member: &mut NamingMember, own: Own, packet: Option<Packet>, tick: u64) -> What
+    ensures { looked tick own (Choice.Open packet) (Some member.old) ≡ (Some member.new, result) }
+{
+    hear(member, packet, tick);
+    member.stand(own.said, own.holds);
     match member.on_tick(tick) {
         Some(view) => What::View(view),
         None => What::Tick,
@@ -172,7 +190,7 @@ fn hear(member: &mut Member, packet: Option<Packet>, tick: u64) -> What
 
 /// The tick of the last look of the view maker, after a turn took this choice at a tick. While there is no view maker each entry
 /// counts as a look.
-pub fn look_after(choice: Choice, member: &Option<Member>, tick: u64, last: u64) -> u64
+pub fn look_after(choice: Choice, member: &Option<NamingMember>, tick: u64, last: u64) -> u64
     ensures { result ≡ look_after tick choice member.now last }
 {
     match choice {

@@ -3,8 +3,8 @@ ghost use Rattle.std.specs.Prelude.{◌≡◌, ◌<◌, ◌++◌, ◌∷◌, ℕ
 ghost use Rattle.qn_base.specs.declared.calls.Call.{Call};
 ghost use Rattle.qn_base.specs.Calls.{blank, some_failed};
 ghost use Rattle.qn_base.specs.Plans.{Follows, Plan, question};
-ghost use Rattle.qn_member.specs.Announcing.{is_hello_due};
-ghost use Rattle.qn_member.specs.Maker.{Maker};
+ghost use Rattle.qn_member.specs.Naming.{NamingMaker};
+ghost use Rattle.qn_member.specs.NamingViews.{is_naming_hello_due};
 ghost use Rattle.qn_model.specs.declared.configuration.Settings.{Settings};
 ghost use Rattle.qn_model.specs.declared.entries.What.{What};
 ghost use Rattle.qn_model.specs.declared.outputs.BootCause.{BootCause};
@@ -84,7 +84,7 @@ pub fn law_rest()
         → st.rests ≡ true
         → Follows (choice_plan me leaves st) calls chosen
         → chosen.1.waits.disk ≡ st.waits.disk }
-    ensures next { (s : Settings) (me : ℕ) (st : RunState) (tick : ℕ) (found : Option Maker × What)
+    ensures next { (s : Settings) (me : ℕ) (st : RunState) (tick : ℕ) (found : Option NamingMaker × What)
         (calls : List Call)
         (next : RunState)
         → Follows (handled s me st tick found) calls (Next next)
@@ -109,14 +109,14 @@ pub fn law_late_look()
         ≡ look_after tick (answered_at tick st.poller choice) st.maker st.last_look }
 {}
 
-/// Law: where a Hello is due at the end of a turn, a plain Hello is sent to each other configured node, in ascending order of their
-/// ranks, then one to each that says what the last look found, and then the view that the node announces. Before them goes the poll
-/// to the arbiter, where one is due.
+/// Law: where a Hello is due at the end of a turn, one is sent to each other configured node, in ascending order of their ranks, which
+/// says what the last look found and what the node says of itself, and then the view that the node announces. Before them goes the
+/// poll to the arbiter, where one is due.
 pub fn law_hellos()
-    ensures { (s : Settings) (me : ℕ) (entry : What) (st : RunState) (m : Maker) (calls : List Call)
+    ensures { (s : Settings) (me : ℕ) (entry : What) (st : RunState) (m : NamingMaker) (calls : List Call)
         (next : RunState)
         → maker_of s me st ≡ Some m
-        → is_hello_due (now st.log) m ≡ true
+        → is_naming_hello_due (now st.log) m ≡ true
         → Follows (greeted s me entry st) calls (Next next)
         → map blank calls
         ≡ poll_calls (poll_due s me true entry (asked_maker s me st))

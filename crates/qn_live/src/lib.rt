@@ -6,8 +6,8 @@
 //! are what the clock told (`law_handed_history`), and the calls without
 //! receive, now, Hello, Announce and polls are the outputs of that history, in order (`law_outputs`). Where no call fails and no
 //! tick falls, no run ends because of the clock or of a failed step of the boot (`law_sound_end`), and a failed call halts
-//! a boot only by the disk operation that it was made for (`law_boot_halted`). A Hello is said in both its forms (`law_hellos`), and a
-//! turn takes no packet where the last look of the view maker is a loop ago (`law_late_look`). `NodeRun` is the same run as a machine, which
+//! a boot only by the disk operation that it was made for (`law_boot_halted`). Where a Hello is due it says what the last look found and
+//! what the node says of itself, and the announcement follows it (`law_hellos`); a turn takes no packet where the last look of the view maker is a loop ago (`law_late_look`). `NodeRun` is the same run as a machine, which
 //! names its next call and takes its answer; an entry is taken in at each look at the clock that did not go back (`answer`), and
 //! `standing` is what the log says. `Notices` are told of each call, and change nothing. No call takes memory from an allocator.
 //!
@@ -41,6 +41,7 @@ mod triple_entry;
 mod triple_laws;
 mod triple_operations;
 mod triple_run;
+mod words;
 
 pub use asked::{Asked, Given, Room};
 pub use calling::call;
@@ -62,3 +63,4 @@ pub use triple_laws::{
     law_triple_writes,
 };
 pub use triple_run::TripleRun;
+pub use words::{Own, Words};

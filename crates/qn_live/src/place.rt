@@ -1,6 +1,6 @@
 //! Where a running node stands between two calls.
 use crate::live_end::LiveEnd;
-use qn_base::{Said, View};
+use qn_base::{Said, Standing, View};
 use qn_model::{Packet, What};
 use qn_safety::{Poll, Reply};
 
@@ -25,10 +25,8 @@ pub struct Waits {
 /// What a node sends to every other node where a Hello is due.
 #[derive(Clone, Copy)]
 pub enum Greeting {
-    /// A plain Hello, for nodes of older versions.
-    Hello,
-    /// A Hello with what the last look found, taken when this greeting begins.
-    Heard(Said),
+    /// A Hello, with what the last look found and what the node says of itself.
+    Hello { said: Said, standing: Standing },
     /// The view that the node announces.
     Announce(View),
 }

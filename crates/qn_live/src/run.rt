@@ -7,14 +7,17 @@ use crate::asked::{Asked, Given, Room};
 use crate::choosing::{
     answered_at, choose, failed_answer, heard_request, look, look_after, loop_after, ready,
 };
-use crate::greeting::{farewell, greeting_after, greeting_packet, hello_due, keep_member};
+use crate::greeting::{
+    farewell, first_greeting, greeting_after, greeting_packet, hello_due, keep_member,
+};
 use crate::live_end::LiveEnd;
 use crate::outputs::{self, end_in, operation_in, waits_after};
 use crate::place::{Choice, Greeting, Place, Waits};
 use crate::polling::{ask_poll, fresh, has_lost, hear_entry, is_view, wait_until};
 use crate::standing::Standing as Stand;
+use crate::words::{Own, Words};
 use qn_base::{Rank, View};
-use qn_member::Member;
+use qn_member::NamingMember;
 use qn_model::{DiskOp, Entry, Outs, Phase, Settings, What};
 use qn_node::Node;
 use qn_polls::{Poller, Standing};
@@ -29,7 +32,7 @@ pub struct NodeRun {
     leave_at: Option<u64>,
     node: Node,
     /// The view maker, where the node takes part.
-    member: Option<Member>,
+    member: Option<NamingMember>,
     /// The loop's time of the header that was read, in milliseconds.
     loop_ms: u64,
     /// The tick of the last entry.
@@ -41,6 +44,8 @@ pub struct NodeRun {
     last_look: u64,
     /// Whether the host of the node has asked it to leave.
     asked: bool,
+    /// What the host of the node says of it.
+    words: Words,
     /// What the node polls its arbiter with, where it has one, and the tick from which on it does.
     poller: Option<Poller>,
     polls_from: u64,
@@ -68,8 +73,8 @@ impl NodeRun {
     ghost use Rattle.qn_model.specs.Settings.{IsValid};
     ghost use Rattle.qn_node.specs.Outputs.{IsNodeOutput};
     ghost use Rattle.qn_live.specs.Asking.{IsServed, IsWithin, is_look, question_of, Tells};
-    ghost use Rattle.qn_live.specs.Choosing.{is_late, is_to_leave};
-    ghost use Rattle.qn_live.specs.Greetings.{farewells, greeting_call, others_from, to_send};
+    ghost use Rattle.qn_live.specs.Choosing.{is_late, is_to_leave, own_of};
+    ghost use Rattle.qn_live.specs.Greetings.{farewells, greeting_call, hellos_where, others_from, to_send};
     ghost use Rattle.qn_live.specs.Machine.{SameBeside, EndsWith, HasMore, IsStanding, IsUnderWay, KeepsEntry, RunFor, Stands, TookIn, acting, begun, clocking, ending, looks_next, next_of, operation_of, parting, saying, settling, state_of, work};
     ghost use Rattle.qn_live.specs.Halts.{is_on_disk};
     ghost use Rattle.qn_live.specs.Performing.{disk_answer, disk_call, noted, out_call, own_number};
@@ -115,6 +120,7 @@ impl NodeRun {
             rests: false,
             last_look: 0,
             asked: false,
+            words: Words::none(),
             poller: fresh(polls),
             polls_from: 0,
             turn: 1,
@@ -259,6 +265,7 @@ impl NodeRun {
         match self.place {
             Place::Receive => {
                 self.asked = heard_request(self.asked, given.got, &room.packet);
+                self.words = self.words.after(self.tick, given.got, &room.packet);
                 self.place = Place::Now(choose(
                     self.me,
                     self.poller.is_some(),
@@ -349,7 +356,9 @@ impl NodeRun {
         }
         let choice = answered_at(tick, &self.poller, choice);
         self.last_look = look_after(choice, &self.member, tick, self.last_look);
-        let what = look(&mut self.member, choice, tick);
+        self.words = self.words.at(tick, self.loop_ms, self.node.holds());
+        let own = self.own();
+        let what = look(&mut self.member, own, choice, tick);
         self.place = Place::Act { at: 0 };
         self.tick = tick;
         self.entry = what;
@@ -416,18 +425,29 @@ impl NodeRun {
             return;
         }
         let live = self.is_live();
+        let own = self.own();
         keep_member(
             &mut self.member,
             live,
             &self.settings,
             self.me,
             self.loop_ms,
+            own,
         );
         let greets = hello_due(&mut self.member, self.tick);
         match self.next_poll(greets) {
             Some(poll) => self.place = Place::Poll { poll, greets },
             None => self.greet_or_finish(greets),
         }
+    }
+
+    /// What the node says of itself.
+    fn own(&self) -> Own
+        ensures { (log : List Line)
+            → Stands self.now log
+            → result ≡ own_of (state_of self.now log) }
+    {
+        self.words.own(self.node.holds())
     }
 
     /// From when on the node polls after an entry at this tick, which it has not taken yet. After a view that has lost a node, one that
@@ -510,18 +530,15 @@ impl NodeRun {
         ensures runs { (log : List Line)
             → Stands self.old log
             → RunFor self.new (saying self.old log
-            (if greets
-            then to_send self.old.settings self.old.me.0 self.old.member Greeting.Hello 0
-            else [])) }
+            (hellos_where greets self.old.settings self.old.me.0 self.old.member)) }
         ensures work { work self.new < 192 * self.old.after + 115 }
         ensures settings { self.new.settings ≡ self.old.settings }
         ensures rank { self.new.me ≡ self.old.me }
         ensures keeps { KeepsEntry self.old self.new }
     {
-        if greets {
-            self.greet(Greeting::Hello, 0);
-        } else {
-            self.finish();
+        match first_greeting(greets, &self.member) {
+            Some(hello) => self.greet(hello, 0),
+            None => self.finish(),
         }
     }
 

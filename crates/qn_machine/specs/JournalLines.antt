@@ -1,4 +1,4 @@
--- What a line of the journal says of the opening, of datagrams and of lines (this project's profile, docs/LIVE.md "The journal").
+-- What a line of the journal says of the opening, of datagrams and of lines (this project's profile, LIVE.md "The journal").
 use Rattle.std.specs.Prelude.{ℕ, Bool, List, [], ◌∷◌, ◌+◌, ◌-◌, ◌%◌, ◌^◌, codes, min, if◌then◌else◌}
 use Rattle.qn_event.specs.EventTexts.{EventText}
 use Rattle.qn_event.specs.WholeLines.{Word, line, number, truth}

@@ -41,7 +41,7 @@ pub struct ArbiterAt {
 pub struct Edge {
     /// The address of each rank; None: all of them on 127.0.0.1.
     pub addresses: Option<[Option<IpAddr>; MOST_NODES]>,
-    /// Where the arbiter of the nodes with these addresses is; None: nowhere, or on 127.0.0.1 where they are there.
+    /// Where the arbiter of the nodes with these addresses is, which they poll; None: nowhere, or on 127.0.0.1 where they are there.
     pub arbiter: Option<ArbiterAt>,
     pub guard: Guard,
     /// What stands for the settings text in a tag.

@@ -3,7 +3,7 @@
 //!
 //! Promises: `StdSource`, `StdSink` and `RealEnv` are the trusted edge: they tell nothing, and no clause says what a file, a stream or a clock
 //! gives. Their counts of faults never fall, and a call answers `Failed` only where the count rose. No file is opened under the
-//! descriptor of a standard stream. A node is handed packets of other nodes alone.
+//! descriptor of a standard stream. A node is handed packets of other nodes and replies of its arbiter alone.
 #![tactic(auto)]
 
 mod absent_file;
@@ -46,7 +46,7 @@ mod waiting;
 mod watchdog;
 mod watchdog_look;
 
-pub use admission::{Admission, Reason};
+pub use admission::{Admission, Reason, Sender};
 pub use edge::{ArbiterAt, Edge, Guard, MOST_NODES, Overwrites};
 pub use error_lines::Lines;
 pub use image_reader::ImageReader;

@@ -2,7 +2,7 @@
 //! else is said.
 ghost use Rattle.std.specs.Prelude.{◌≤◌, IfOk, IfSome};
 
-use crate::admission::{Admission, Reason, is_vote_of_host};
+use crate::admission::{ARBITER, Admission, Reason, Sender, is_vote_of_host};
 use crate::deadline::{Deadline, is_late};
 use crate::edge::{ArbiterAt, Edge, Guard, MOST_NODES};
 use crate::error_lines::Lines;
@@ -31,9 +31,6 @@ const WAIT: u64 = 40;
 /// How many datagrams a call looks at.
 const LOOKS: u32 = 10_000;
 
-/// The seat of the arbiter, one above those of the ranks.
-const ARBITER: u8 = 32;
-
 /// The sockets of one node or of the arbiter, and what is between them and it.
 #[derive(Drop)]
 pub(crate) struct Network {
@@ -61,14 +58,7 @@ impl Network {
         rank: Rank,
     ) -> io::Result<Network> {
         let peers = peers_of(edge, first_port, rank);
-        let own = if rank.0 == ARBITER {
-            address_of_arbiter(edge, first_port)
-        } else {
-            peers.address_of(rank.0)
-        };
-        let Some(own) = own else {
-            return Err(io::Error::new(ErrorKind::InvalidInput, "no address of this node"));
-        };
+        let (own, arbiter) = places_of(edge, &peers, first_port, rank)?;
         let host = IpAddr::V4(Ipv4Addr::LOCALHOST);
         let lock = if own.ip() == host {
             None
@@ -90,7 +80,11 @@ impl Network {
             wait,
             _lock: lock,
             takes_votes: edge.takes_votes(),
-            admission: Admission { peers, receiver },
+            admission: Admission {
+                peers,
+                arbiter,
+                receiver,
+            },
             sealing,
             refusals: Refusals::default(),
             leave: leave_file_of(rt, edge)?,
@@ -175,11 +169,11 @@ impl Network {
         if self.takes_votes && is_vote_of_host(from, bytes) {
             return Some(put(bytes, packet));
         }
-        let sender = self.admission.peers.sender_of(from);
+        let sender = self.admission.sender_of(from);
         match self.admission.take(tick, from, bytes) {
             Ok(inner) => match get_told(inner) {
                 Some((teller, told)) => {
-                    if sender == Some(teller.0) {
+                    if sender == Some(Sender::Rank(teller.0)) {
                         lines.voices().hear(teller, told, tick);
                     }
                     None
@@ -193,12 +187,12 @@ impl Network {
         }
     }
 
-    /// Counts a datagram that is not handed on, which came from the address of that rank.
-    fn refuse(&mut self, lines: &Lines, sender: Option<u8>, reason: Reason) {
+    /// Counts a datagram that is not handed on, which came from the address of that sender.
+    fn refuse(&mut self, lines: &Lines, sender: Option<Sender>, reason: Reason) {
         self.refusals.count(reason);
         lines.count_refused();
-        if let (Some(rank), Reason::Sealed(Refused::Unsealed)) = (sender, reason) {
-            lines.voices().refuse(rank);
+        if let (Some(sender), Reason::Sealed(Refused::Unsealed)) = (sender, reason) {
+            lines.voices().refuse(sender.seat());
         }
     }
 
@@ -219,10 +213,24 @@ impl Network {
         self.refusals.say(rt, lines, tick);
     }
 
-    /// Sends a packet to the node of that rank, whether it is there or not.
+    /// Where the arbiter is that the node polls, where it has one.
+    pub(crate) fn arbiter(&self) -> Option<SocketAddr> {
+        self.admission.arbiter
+    }
+
+    /// Sends a packet to the node of that rank, or to the arbiter as rank 32, whether it is there or not. What is for an arbiter of which nobody
+    /// knows where it is, is lost: the opening of the node has said so.
     pub(crate) fn send(&mut self, to: Rank, bytes: &[u8]) -> io::Result<()> {
-        let Some(address) = self.admission.peers.address_of(to.0) else {
-            return Err(io::Error::new(ErrorKind::InvalidInput, "no address of that node"));
+        let address = if to.0 == ARBITER {
+            let Some(arbiter) = self.admission.arbiter else {
+                return Ok(());
+            };
+            arbiter
+        } else {
+            let Some(address) = self.admission.peers.address_of(to.0) else {
+                return Err(io::Error::new(ErrorKind::InvalidInput, "no address of that node"));
+            };
+            address
         };
         match &mut self.sealing {
             None => send_to(&self.socket, bytes, address),
@@ -244,6 +252,25 @@ fn peers_of(edge: &Edge, first_port: u16, rank: Rank) -> Peers {
     }
 }
 
+/// Where the node of that rank is, or the arbiter as rank 32; and where the arbiter is that this node polls.
+fn places_of(
+    edge: &Edge,
+    peers: &Peers,
+    first_port: u16,
+    rank: Rank,
+) -> io::Result<(SocketAddr, Option<SocketAddr>)> {
+    let arbiter = address_of_arbiter(edge, first_port);
+    let (own, polled) = if rank.0 == ARBITER {
+        (arbiter, None)
+    } else {
+        (peers.address_of(rank.0), arbiter)
+    };
+    match own {
+        Some(own) => Ok((own, polled)),
+        None => Err(io::Error::new(ErrorKind::InvalidInput, "no address of this node")),
+    }
+}
+
 /// With what this host asks its node to leave, where that was said.
 fn leave_file_of<R: AllocGlobal>(rt: &R, edge: &Edge) -> io::Result<Option<LeaveFile>> {
     let Some(path) = &edge.leave else {
@@ -255,7 +282,7 @@ fn leave_file_of<R: AllocGlobal>(rt: &R, edge: &Edge) -> io::Result<Option<Leave
     }
 }
 
-/// Where the arbiter is, where there is one.
+/// Where the arbiter is, where there is one: on 127.0.0.1 where all nodes are there.
 fn address_of_arbiter(edge: &Edge, first_port: u16) -> Option<SocketAddr> {
     let at = match edge.addresses {
         Some(_) => edge.arbiter?,

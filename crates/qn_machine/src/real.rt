@@ -139,6 +139,7 @@ impl<
     {
         let (disk, devices) = opened?;
         self.count_lost(&disk);
+        self.lines.voices().set_arbiter(devices.network.arbiter());
         self.disk = disk;
         self.devices = Some(devices);
         Ok(())

@@ -27,7 +27,7 @@ pub record NamingMaker : Type 0 where
   pub made : Option ℕ  -- the tick at which the present view came
   pub naming : Bool  -- at the last look each visible node knew names
   pub closed : Bool  -- the view that was handed on last is one under which nobody may start
-  pub stands : Standing  -- what the node says of itself after the last look
+  pub stands : Standing  -- what the node says of itself: after a look with what that found
   pub told_stands : Standing  -- what it said of itself last
 
 abbrev pub first_naming : Settings → ℕ → ℕ → NamingMaker
@@ -140,6 +140,7 @@ after_stand standing holds m =
     then record m {
       flags = slice_set m.flags m.maker.me (own_flags standing holds);
       weights = slice_set m.weights m.maker.me standing.weight;
+      stands = record { flags = own_flags standing holds; weight = standing.weight };
     }
     else m
 

@@ -42,7 +42,7 @@ pub struct NamingMember {
     pub(crate) naming: bool,
     /// The view that was handed on last is one under which nobody may start.
     pub(crate) closed: bool,
-    /// What the node says of itself after the last look.
+    /// What the node says of itself: after a look with what that found.
     pub(crate) stands: Standing,
     /// What it said of itself last.
     pub(crate) told_stands: Standing,
@@ -152,14 +152,19 @@ impl NamingMember {
     }
 
     /// What the node says of itself from now on: whether it is barred, unfit, or pulls (bits 0 to 2), how much it is preferred, and
-    /// whether it holds. From the first call on it knows names.
+    /// whether it holds. From the first call on it knows names. Until the next look a Hello says this alone.
     pub fn stand(&mut self, standing: Standing, holds: bool)
         ensures { self.new ≡ after_stand standing holds self.old }
     {
         let me = self.member.me;
         if self.member.is_configured(me) {
-            self.flags[usize::from(me.0)] = own_flags(standing, holds);
+            let flags = own_flags(standing, holds);
+            self.flags[usize::from(me.0)] = flags;
             self.weights[usize::from(me.0)] = standing.weight;
+            self.stands = Standing {
+                flags,
+                weight: standing.weight,
+            };
         }
     }
 

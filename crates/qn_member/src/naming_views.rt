@@ -48,11 +48,17 @@ impl NamingMember {
     ghost use Rattle.qn_member.specs.NamingViews.{after_by_name, after_found, after_look, after_plain_look, answer_at, apart_nodes, chosen_by, company_now, copy_again, copy_of, ended, followed_by_age, followed_now, handed, is_apart, is_closed_to, is_led_by, is_loop_old, is_named_anew, is_newer, is_proven, is_sixth_loop, leader_now, leading, leads_itself, may_begin, may_not_start, members_by_name, named_now, next_by_name, noted_by_name, own_by_name, said_by_name, seeing_names, standing_at, view_by_name, view_found, view_of};
 
     /// A look at a tick: the view to install, or None where the present one stays. It is the node's own copy of the view: one
-    /// under which nobody may start, where the node may not start and the view would choose it.
+    /// under which nobody may start, where the node may not start and the view would choose it. A view that the look itself finds
+    /// contains the node, and its members are configured.
     #[tactic(auto, unfolding(crate::specs::NamingViews::answer_at, crate::specs::NamingViews::after_look))]
     pub fn on_tick(&mut self, tick: u64) -> Option<View>
         ensures view { result ≡ answer_at tick self.old }
         ensures after { self.new ≡ after_look tick self.old }
+        ensures contains { IfSome (view_found tick self.old)
+            (λ view. is_member view.members self.old.maker.me ≡ true) }
+        ensures configured { IfSome (view_found tick self.old) (λ view. (rank : ℕ)
+            → is_member view.members rank ≡ true
+            → rank < length self.old.maker.nodes) }
     {
         let found = self.look(tick);
         let handed = self.handed(found);

@@ -8,7 +8,7 @@
 //!     door KEYS TEXT RANK NODES            a new receiver, to which the rows `came` that follow come
 //!     came TICK BYTES                      take PACKET, unsealed, astray or old
 use arrayvec::ArrayVec;
-use qn_seal::{Key, Keys, Receiver, Refused, Seal, Texts, open, put_sealed, text_of};
+use qn_seal::{INNER, Key, Keys, Receiver, Refused, Seal, Texts, open, put_sealed, text_of};
 use qn_words::{Words, bytes_of, read_byte, read_number, read_rank};
 use std::alloc::Global;
 

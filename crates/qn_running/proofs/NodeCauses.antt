@@ -25,41 +25,41 @@ use Rattle.qn_commands.specs.Works.{Performs, Works, refusal}
 use Rattle.qn_running.proofs.NodeEnds.{Performed, opening_tells_none, performed}
 
 -- the node was opened by the first call, and ran with the others
-record RanOn (images : NodeImages) (words : NodeWords) (settings : Settings) (calls : List Call) (before after : Output) (code : ℕ) : Type 0 where
+record RanOn (images : NodeImages) (words : NodeWords) (polls : Option ℕ) (settings : Settings) (calls : List Call) (before after : Output) (code : ℕ) : Type 0 where
   rank : ℕ
   found : rank_with settings words.id ≡ Some rank
   first : Call
   more : List Call
   parts : calls ≡ first ∷ more
   asked : blank first ≡ opening images words rank true
-  run : Performed (node_plan images words settings rank) words.turns more before after code
+  run : Performed (node_plan images words polls settings rank) words.turns more before after code
 
 -- it was refused before, or it ran
-abbrev Went : NodeImages → NodeWords → Settings → List Call → Output → Output → ℕ → Type 0
-Went images words settings calls before after code = (code ≡ 16) ⊎ (code ≡ 8) ⊎ (code ≡ 7) ⊎ RanOn images words settings calls before after code
+abbrev Went : NodeImages → NodeWords → Option ℕ → Settings → List Call → Output → Output → ℕ → Type 0
+Went images words polls settings calls before after code = (code ≡ 16) ⊎ (code ≡ 8) ⊎ (code ≡ 7) ⊎ RanOn images words polls settings calls before after code
 
 said : {text : List ℕ} {wanted code : ℕ} {before after : Output} → Says text wanted before after code → (code ≡ wanted) ⊎ (code ≡ 7)
 said (Whole is whole) = inl is
 said (Cut is fails front) = inr is
 
-module _ (images : NodeImages) (words : NodeWords) (settings : Settings) (calls : List Call) (before after : Output) (code : ℕ) where
-  refused_unknown : (code ≡ 16) ⊎ (code ≡ 7) → Went images words settings calls before after code
+module _ (images : NodeImages) (words : NodeWords) (polls : Option ℕ) (settings : Settings) (calls : List Call) (before after : Output) (code : ℕ) where
+  refused_unknown : (code ≡ 16) ⊎ (code ≡ 7) → Went images words polls settings calls before after code
   refused_unknown (inl sixteen) = inl sixteen
   refused_unknown (inr seven) = inr (inr (inl seven))
 
-  refused_opening : (code ≡ 8) ⊎ (code ≡ 7) → Went images words settings calls before after code
+  refused_opening : (code ≡ 8) ⊎ (code ≡ 7) → Went images words polls settings calls before after code
   refused_opening (inl eight) = inr (inl eight)
   refused_opening (inr seven) = inr (inr (inl seven))
 
-went_opened : (images : NodeImages) (words : NodeWords) (settings : Settings) (rank : ℕ) (calls : List Call) (before after : Output) (code : ℕ)
-    → rank_with settings words.id ≡ Some rank → Performs (opened_work images words settings rank) calls before after code → Went images words settings calls before after code
+went_opened : (images : NodeImages) (words : NodeWords) (polls : Option ℕ) (settings : Settings) (rank : ℕ) (calls : List Call) (before after : Output) (code : ℕ)
+    → rank_with settings words.id ≡ Some rank → Performs (opened_work images words polls settings rank) calls before after code → Went images words polls settings calls before after code
 unfolding opened_work run_work
-went_opened images words settings rank [] before after code found did = absurd did
-went_opened images words settings rank (call ∷ more) before after code found did = of_answer (is_failed call) did.1
+went_opened images words polls settings rank [] before after code found did = absurd did
+went_opened images words polls settings rank (call ∷ more) before after code found did = of_answer (is_failed call) did.1
   where
-    of_answer : (failing : Bool) → Performs (if failing then refusal EnvFault else run_work images words settings rank) more before after code
-        → Went images words settings (call ∷ more) before after code
-    of_answer true refuses = refused_opening images words settings (call ∷ more) before after code (said refuses.1)
+    of_answer : (failing : Bool) → Performs (if failing then refusal EnvFault else run_work images words polls settings rank) more before after code
+        → Went images words polls settings (call ∷ more) before after code
+    of_answer true refuses = refused_opening images words polls settings (call ∷ more) before after code (said refuses.1)
     of_answer false ran_on = inr (inr (inr (record {
       rank = rank;
       found = found;
@@ -67,18 +67,18 @@ went_opened images words settings rank (call ∷ more) before after code found d
       more = more;
       parts = refl;
       asked = did.0;
-      run = performed (node_plan images words settings rank) words.turns more before after code ran_on;
+      run = performed (node_plan images words polls settings rank) words.turns more before after code ran_on;
     })))
 
-went : (images : NodeImages) (words : NodeWords) (settings : Settings) (calls : List Call) (before after : Output) (code : ℕ)
-    → Performs (node_work images words settings) calls before after code → Went images words settings calls before after code
+went : (images : NodeImages) (words : NodeWords) (polls : Option ℕ) (settings : Settings) (calls : List Call) (before after : Output) (code : ℕ)
+    → Performs (node_work images words polls settings) calls before after code → Went images words polls settings calls before after code
 unfolding node_work
-went images words settings calls before after code did = of_place (rank_with settings words.id) refl did
+went images words polls settings calls before after code did = of_place (rank_with settings words.id) refl did
   where
-    of_place : (place : Option ℕ) → rank_with settings words.id ≡ place → Performs (option_map_or (opened_work images words settings) place (refusal (UnknownNode words.id))) calls before after code
-        → Went images words settings calls before after code
-    of_place None none refuses = refused_unknown images words settings calls before after code (said refuses.1)
-    of_place (Some rank) found opens = went_opened images words settings rank calls before after code found opens
+    of_place : (place : Option ℕ) → rank_with settings words.id ≡ place → Performs (option_map_or (opened_work images words polls settings) place (refusal (UnknownNode words.id))) calls before after code
+        → Went images words polls settings calls before after code
+    of_place None none refuses = refused_unknown images words polls settings calls before after code (said refuses.1)
+    of_place (Some rank) found opens = went_opened images words polls settings rank calls before after code found opens
 
 -- status 12 is that of a clock
 of_clock : (turns : ℕ) (end : LiveEnd) (code : ℕ) → (code ≡ (end_outcome turns end).status) ⊎ (code ≡ 7) → code ≡ 12 → is_by_clock end ≡ true
@@ -136,13 +136,13 @@ halted_failed_on : (images : NodeImages) (settings : Settings) (rank : ℕ) (cau
 halted_failed_on One settings rank cause calls halted = halted_failed one_call settings rank cause calls halted
 halted_failed_on Three settings rank cause calls halted = halted_failed (three_calls settings rank halted.0) settings rank cause calls halted.1
 
-module _ (images : NodeImages) (words : NodeWords) (settings : Settings) {before after : Seen} {code : ℕ}
-    (law : (rank : ℕ) → EndsWithCause images words settings rank) (works : Works (node_work images words settings) before after code) where
+module _ (images : NodeImages) (words : NodeWords) (polls : Option ℕ) (settings : Settings) {before after : Seen} {code : ℕ}
+    (law : (rank : ℕ) → EndsWithCause images words polls settings rank) (works : Works (node_work images words polls settings) before after code) where
   -- at status 12 a tick fell
   pub clock_went_back : code ≡ 12 → NeverFalls 0 works.calls → ⊥
-  clock_went_back twelve rises = of_went (went images words settings works.calls before.output after.output code works.performs)
+  clock_went_back twelve rises = of_went (went images words polls settings works.calls before.output after.output code works.performs)
     where
-      of_went : Went images words settings works.calls before.output after.output code → ⊥
+      of_went : Went images words polls settings works.calls before.output after.output code → ⊥
       of_went (inl sixteen) = omega arith
       of_went (inr (inl eight)) = omega arith
       of_went (inr (inr (inl seven))) = omega arith
@@ -156,16 +156,16 @@ module _ (images : NodeImages) (words : NodeWords) (settings : Settings) {before
 
   -- at status 14 the boot was halted, by a failed call only where a call of the operation failed that halted it
   pub boot_halted : code ≡ 14 → HaltsBoot images words (Ok settings) works.calls before after code
-  boot_halted fourteen = of_went (went images words settings works.calls before.output after.output code works.performs)
+  boot_halted fourteen = of_went (went images words polls settings works.calls before.output after.output code works.performs)
     where
-      halted_on : (ran : RanOn images words settings works.calls before.output after.output code) (cause : BootCause)
+      halted_on : (ran : RanOn images words polls settings works.calls before.output after.output code) (cause : BootCause)
           → ran.run.ran.end ≡ end.BootHalted cause → is_no_failure cause ≡ false → HaltedOn images settings ran.rank cause works.calls
       halted_on ran cause is failure =
           subst (λ (calls : List Call). HaltedOn images settings ran.rank cause calls) (sym ran.parts)
           (halted_on_first images settings ran.rank cause ran.first ran.more
           ((law ran.rank).halted ran.more ran.run.ran cause ran.run.follows is failure))
 
-      of_went : Went images words settings works.calls before.output after.output code → HaltsBoot images words (Ok settings) works.calls before after code
+      of_went : Went images words polls settings works.calls before.output after.output code → HaltsBoot images words (Ok settings) works.calls before after code
       of_went (inl sixteen) = absurd (omega arith)
       of_went (inr (inl eight)) = absurd (omega arith)
       of_went (inr (inr (inl seven))) = absurd (omega arith)

@@ -72,14 +72,14 @@ module _ (P : Type 0) (words : NodeWords) (before after : Input) where
 
 -- ## The end of a run
 
-module _ (images : NodeImages) (words : NodeWords) (settings : Settings) where
-  pub unknown_work : None ≡ rank_with settings words.id → node_work images words settings ≡ refusal (UnknownNode words.id)
+module _ (images : NodeImages) (words : NodeWords) (polls : Option ℕ) (settings : Settings) where
+  pub unknown_work : None ≡ rank_with settings words.id → node_work images words polls settings ≡ refusal (UnknownNode words.id)
   unfolding node_work
-  unknown_work none = ap (λ place. option_map_or (opened_work images words settings) place (refusal (UnknownNode words.id))) (sym none)
+  unknown_work none = ap (λ place. option_map_or (opened_work images words polls settings) place (refusal (UnknownNode words.id))) (sym none)
 
-  pub known_work : (rank : ℕ) → Some rank ≡ rank_with settings words.id → node_work images words settings ≡ opened_work images words settings rank
+  pub known_work : (rank : ℕ) → Some rank ≡ rank_with settings words.id → node_work images words polls settings ≡ opened_work images words polls settings rank
   unfolding node_work
-  known_work rank some = ap (λ place. option_map_or (opened_work images words settings) place (refusal (UnknownNode words.id))) (sym some)
+  known_work rank some = ap (λ place. option_map_or (opened_work images words polls settings) place (refusal (UnknownNode words.id))) (sym some)
 
 -- a run that was performed ended with a line
 pub record Performed (plan : Plan Ran) (turns : ℕ) (calls : List Call) (before after : Output) (code : ℕ) : Type 0 where
@@ -120,16 +120,16 @@ module _ (images : NodeImages) (words : NodeWords) (rank : ℕ) where
   opening_tells_none (Disarm ok) asked = refl
   opening_tells_none (Halt code) asked = refl
 
-  module _ (settings : Settings) (law : EndsWithCause images words settings rank) (before after : Output) (code : ℕ) where
-    opened_ends : (calls : List Call) → Performs (opened_work images words settings rank) calls before after code → some_failed calls ≡ false
+  module _ (polls : Option ℕ) (settings : Settings) (law : EndsWithCause images words polls settings rank) (before after : Output) (code : ℕ) where
+    opened_ends : (calls : List Call) → Performs (opened_work images words polls settings rank) calls before after code → some_failed calls ≡ false
         → NeverFalls 0 calls → ¬ WriteFails before after → EndsUndisturbed words.turns before after code
     unfolding opened_work run_work
     opened_ends [] did whole rises no_write = absurd did
     opened_ends (call ∷ calls) did whole rises no_write =
-        let ran_on : Performs (run_work images words settings rank) calls before after code =
-        subst (λ (failing : Bool). Performs (if failing then refusal EnvFault else run_work images words settings rank) calls before after code)
+        let ran_on : Performs (run_work images words polls settings rank) calls before after code =
+        subst (λ (failing : Bool). Performs (if failing then refusal EnvFault else run_work images words polls settings rank) calls before after code)
         (first_of_neither (is_failed call) (some_failed calls) whole) did.1 in
-        let run = performed (node_plan images words settings rank) words.turns calls before after code ran_on in
+        let run = performed (node_plan images words polls settings rank) words.turns calls before after code ran_on in
         record {
           end = run.ran.end;
           no_call = law.call calls run.ran run.follows
@@ -140,11 +140,11 @@ module _ (images : NodeImages) (words : NodeWords) (rank : ℕ) where
         }
 
 -- no call failed and no tick fell: the end is one that comes so
-pub undisturbed_node : {before after : Seen} {code : ℕ} (images : NodeImages) (words : NodeWords) (settings : Settings) (rank : ℕ)
-    → EndsWithCause images words settings rank → rank_with settings words.id ≡ Some rank → (works : Works (node_work images words settings) before after code)
+pub undisturbed_node : {before after : Seen} {code : ℕ} (images : NodeImages) (words : NodeWords) (polls : Option ℕ) (settings : Settings) (rank : ℕ)
+    → EndsWithCause images words polls settings rank → rank_with settings words.id ≡ Some rank → (works : Works (node_work images words polls settings) before after code)
     → ¬ WriteFails before.output after.output → ¬ CallFails before.env after.env → NeverFalls 0 works.calls
     → EndsUndisturbed words.turns before.output after.output code
-undisturbed_node {before} {after} {code} images words settings rank law some works no_write no_call rises =
-    opened_ends images words rank settings law before.output after.output code works.calls
-    (subst (λ (work : Work). Performs work works.calls before.output after.output code) (known_work images words settings rank (sym some)) works.performs)
+undisturbed_node {before} {after} {code} images words polls settings rank law some works no_write no_call rises =
+    opened_ends images words rank polls settings law before.output after.output code works.calls
+    (subst (λ (work : Work). Performs work works.calls before.output after.output code) (known_work images words polls settings rank (sym some)) works.performs)
     (not_risen (some_failed works.calls) works.made.cause no_call) rises no_write

@@ -24,6 +24,7 @@ use Rattle.qn_commands.specs.Endings.{Cut, Refuses, Says, Whole}
 use Rattle.qn_commands.specs.Faults.{status_of}
 use Rattle.qn_commands.specs.InputSettings.{Judges, input_settings}
 use Rattle.qn_running.specs.NodeTexts.{end_outcome}
+use Rattle.qn_running.specs.Polls.{ReadsNode}
 use Rattle.qn_commands.specs.Seen.{Input, NeverFall, Outside, Output, ReadFails, Seen, WriteFails, seen}
 use Rattle.qn_commands.specs.Statuses.{IsOneOf}
 use Rattle.qn_commands.specs.Works.{Performs, Works}
@@ -36,23 +37,23 @@ logged_none output = ap (λ (w : Option (List ℕ)). record { written = w; fault
 
 -- ## Once the settings are read
 
-module _ (images : NodeImages) (words : NodeWords) (settings : Settings) where
+module _ (images : NodeImages) (words : NodeWords) (polls : Option ℕ) (settings : Settings) where
   -- a work without a call after the opening
-  pub unlogged : {before after : Seen} {code : ℕ} (works : Works (node_work images words settings) before after code)
-      → recorded_calls works.calls ≡ [] → WorksLogged images words settings before after code
+  pub unlogged : {before after : Seen} {code : ℕ} (works : Works (node_work images words polls settings) before after code)
+      → recorded_calls works.calls ≡ [] → WorksLogged images words polls settings before after code
   unlogged {before} {after} {code} works none = WorkedWhole (record {
     calls = [];
     works = record {
       calls = works.calls;
       made = works.made;
-      performs = subst (λ (o : Output). Performs (node_work images words settings) works.calls o after.output code) (sym (logged_none before.output)) works.performs;
+      performs = subst (λ (o : Output). Performs (node_work images words polls settings) works.calls o after.output code) (sym (logged_none before.output)) works.performs;
     };
     same = none;
   })
 
   -- the input plays no part
-  pub with_input : {before after : Seen} {code : ℕ} (input : Input) → WorksLogged images words settings before after code
-      → WorksLogged images words settings before (seen input after.output after.env) code
+  pub with_input : {before after : Seen} {code : ℕ} (input : Input) → WorksLogged images words polls settings before after code
+      → WorksLogged images words polls settings before (seen input after.output after.env) code
   with_input input (WorkedWhole whole) = WorkedWhole (record {
     calls = whole.calls;
     works = record { calls = whole.works.calls; made = whole.works.made; performs = whole.works.performs };
@@ -72,16 +73,16 @@ module _ (images : NodeImages) (words : NodeWords) (settings : Settings) where
   -- nothing was called but the opening, or nothing at all
   module _ (input : Input) (before after : Output) where
     pub logs_unknown : (env : Outside) (code : ℕ) → None ≡ rank_with settings words.id → Refuses (UnknownNode words.id) before after code
-        → WorksLogged images words settings (seen input before env) (seen input after env) code
+        → WorksLogged images words polls settings (seen input before env) (seen input after env) code
     unfolding works_unknown
-    logs_unknown env code none refuses = unlogged (works_unknown images words settings input before after env code none refuses) refl
+    logs_unknown env code none refuses = unlogged (works_unknown images words polls settings input before after env code none refuses) refl
 
     pub logs_unopened : (rank : ℕ) (some : Some rank ≡ rank_with settings words.id) (env_before env_after : Outside) (code : ℕ)
         → Made env_before.faults env_after.faults env_before.calls env_after.calls (opening images words rank false ∷ [])
-        → Refuses EnvFault before after code → WorksLogged images words settings (seen input before env_before) (seen input after env_after) code
+        → Refuses EnvFault before after code → WorksLogged images words polls settings (seen input before env_before) (seen input after env_after) code
     unfolding works_unopened
     logs_unopened rank some env_before env_after code made refuses =
-        unlogged (works_unopened images words settings input before after rank some env_before env_after code made refuses) refl
+        unlogged (works_unopened images words polls settings input before after rank some env_before env_after code made refuses) refl
 
 -- ## The run
 
@@ -99,12 +100,12 @@ logs_writes calls before after whole logs = of_logs before.whole after.whole who
     of_logs false last is logs = absurd cc
 
 -- what an outside and an output show after a recorded run
-pub runs_logged : (images : NodeImages) (words : NodeWords) (settings : Settings) (rank : ℕ) (env_before env_after : Outside) (before after : LogSink) (end : LiveEnd) (whole : Bool)
+pub runs_logged : (images : NodeImages) (words : NodeWords) (polls : Option ℕ) (settings : Settings) (rank : ℕ) (env_before env_after : Outside) (before after : LogSink) (end : LiveEnd) (whole : Bool)
     → before.whole ≡ true → whole ≡ after.whole → (log : List Line)
     → DidLogged (plan_on images settings rank words.clean words.leave words.polls words.turns) (record { end = end; log = log })
     (recorded env_before.faults env_before.calls before) (recorded env_after.faults env_after.calls after)
-    → RunsLogged images words settings rank (output_of before) (output_of after) env_before env_after end whole
-runs_logged images words settings rank env_before env_after before after end whole begun is log did = record {
+    → RunsLogged images words polls settings rank (output_of before) (output_of after) env_before env_after end whole
+runs_logged images words polls settings rank env_before env_after before after end whole begun is log did = record {
   log = log;
   did = record { calls = did.calls; made = did.made; follows = did.follows };
   writes = subst (λ (w : Bool). WritesLog w did.calls (output_of before) (output_of after)) (sym is)
@@ -134,26 +135,26 @@ ended_status turns (ended.ClockBack before now) = inr (inl refl)
 ended_status turns (ended.SelfReset message) = inr (inr (inl refl))
 ended_status turns (ended.BootHalted cause) = inr (inr (inr refl))
 
-module _ (images : NodeImages) (words : NodeWords) (settings : Settings) (rank : ℕ) (input : Input) (before middle after : Output) (first opened last : Outside) (end : LiveEnd)
+module _ (images : NodeImages) (words : NodeWords) (polls : Option ℕ) (settings : Settings) (rank : ℕ) (input : Input) (before middle after : Output) (first opened last : Outside) (end : LiveEnd)
     (some : Some rank ≡ rank_with settings words.id) (opens : Opens images words rank first opened) where
   -- the log is whole, and the last line was written after it
-  pub works_logged : (whole : Bool) → whole ≡ true → (ran : RunsLogged images words settings rank before middle opened last end whole) (code : ℕ)
+  pub works_logged : (whole : Bool) → whole ≡ true → (ran : RunsLogged images words polls settings rank before middle opened last end whole) (code : ℕ)
       → before.faults ≤ middle.faults → middle.faults ≤ after.faults
       → Says (end_outcome words.turns end).text (end_outcome words.turns end).status middle after code
-      → WorksLogged images words settings (seen input before first) (seen input after last) code
+      → WorksLogged images words polls settings (seen input before first) (seen input after last) code
   unfolding works_ran
   works_logged whole is ran code low high says =
       let writes : WritesLog true ran.did.calls before middle = subst (λ (w : Bool). WritesLog w ran.did.calls before middle) is ran.writes in
       WorkedWhole (record {
         calls = ran.did.calls;
-        works = works_ran images words settings input (logged before ran.did.calls) after rank some first opened last code end ran.log opens ran.did
+        works = works_ran images words polls settings input (logged before ran.did.calls) after rank some first opened last code end ran.log opens ran.did
             (said_after before middle after ran.did.calls writes low high says);
         same = append-nil ran.did.calls;
       })
 
   -- a line of the log could not be written
-  pub works_cut : (whole : Bool) → whole ≡ false → (ran : RunsLogged images words settings rank before after opened last end whole)
-      → WorksLogged images words settings (seen input before first) (seen input after last) 7
+  pub works_cut : (whole : Bool) → whole ≡ false → (ran : RunsLogged images words polls settings rank before after opened last end whole)
+      → WorksLogged images words polls settings (seen input before first) (seen input after last) 7
   unfolding works_ran
   works_cut whole is ran =
       let writes : WritesLog false ran.did.calls before after = subst (λ (w : Bool). WritesLog w ran.did.calls before after) is ran.writes in
@@ -162,7 +163,7 @@ module _ (images : NodeImages) (words : NodeWords) (settings : Settings) (rank :
       WorkedCut (record {
         last = due;
         own = own.status;
-        works = works_ran images words settings input before due rank some first opened last own.status end ran.log opens ran.did (Whole refl refl);
+        works = works_ran images words polls settings input before due rank some first opened last own.status end ran.log opens ran.did (Whole refl refl);
         ended = ended_status words.turns end;
         front = subst (λ (calls : List Call). AppendsFront before.written after.written (log_text calls)) (sym (append-nil ran.did.calls)) writes.0;
         fails = writes.1;
@@ -198,25 +199,26 @@ module _ (images : NodeImages) (words : NodeWords) (before after : Seen) (code :
   }
 
   -- the settings are good
-  pub logs_node : (settings : Settings) → ((rank : ℕ) → EndsWithCause images words settings rank) → Judges input_settings before.input after.input (Ok settings)
-      → WorksLogged images words settings before after code → RanStatus code → (code ≡ 8 → FailsToOpen images words before.env after.env)
+  pub logs_node : (polls : Option ℕ) (settings : Settings) → ((rank : ℕ) → EndsWithCause images words polls settings rank)
+      → ReadsNode before.input after.input settings polls
+      → WorksLogged images words polls settings before after code → RanStatus code → (code ≡ 8 → FailsToOpen images words before.env after.env)
       → LogsNode images words before after code
   unfolding runs_node
-  logs_node settings causes judges (WorkedWhole whole) outcomes unopened = of_whole (record {
+  logs_node polls settings causes reads (WorkedWhole whole) outcomes unopened = of_whole (record {
     calls = whole.calls;
     runs = runs_node images words (after_log before whole.calls) after code
         (record { source = never_fall.source; sink = never_fall.sink; env = never_fall.env }) write
-        settings causes judges whole.works outcomes unopened;
+        polls settings causes reads whole.works outcomes unopened;
     same = whole.same;
   })
-  logs_node settings causes judges (WorkedCut cut) outcomes unopened = record {
+  logs_node polls settings causes reads (WorkedCut cut) outcomes unopened = record {
     ran = CutLog (record {
       last = cut.last;
       own = cut.own;
       runs = runs_node images words before (with_output after cut.last) cut.own
           (record { source = never_fall.source; sink = cut.never_falls; env = never_fall.env })
           (λ seven. absurd (not_ended cut.own cut.ended (inl seven)))
-          settings causes judges cut.works (ended_ran cut.own cut.ended) (λ eight. absurd (not_ended cut.own cut.ended (inr eight)));
+          polls settings causes reads cut.works (ended_ran cut.own cut.ended) (λ eight. absurd (not_ended cut.own cut.ended (inr eight)));
       front = cut.front;
       fails = cut.fails;
       is = cut.is;

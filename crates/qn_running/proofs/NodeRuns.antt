@@ -16,6 +16,7 @@ use Rattle.qn_commands.specs.Endings.{Refuses, Says}
 use Rattle.qn_commands.specs.Faults.{fault_line, status_of}
 use Rattle.qn_commands.specs.InputSettings.{Judges, input_settings}
 use Rattle.qn_running.specs.NodeTexts.{end_outcome}
+use Rattle.qn_running.specs.Polls.{ReadsNode}
 use Rattle.qn_commands.specs.Seen.{Input, NeverFall, Output, Outside, ReadFails, Seen, WriteFails, seen}
 use Rattle.qn_commands.specs.Statuses.{IsOneOf}
 use Rattle.qn_commands.specs.Works.{Carries, Works}
@@ -70,13 +71,13 @@ pub ranked : (settings : Settings) (id : NodeId) (number : ℕ) (place : Option 
     → position (λ node. node.id.0 == number) settings.nodes ≡ place → place ≡ rank_with settings id
 ranked settings id number place same is = sym is ∙ ap (λ (n : ℕ). position (λ node. node.id.0 == n) settings.nodes) same
 
-module _ (images : NodeImages) (words : NodeWords) (settings : Settings) where
+module _ (images : NodeImages) (words : NodeWords) (polls : Option ℕ) (settings : Settings) where
   module _ (input : Input) (before after : Output) where
     -- no node of the settings has the id
     unfoldable pub works_unknown : (env : Outside) (code : ℕ) → None ≡ rank_with settings words.id → Refuses (UnknownNode words.id) before after code
-        → Works (node_work images words settings) (seen input before env) (seen input after env) code
+        → Works (node_work images words polls settings) (seen input before env) (seen input after env) code
     works_unknown env code none refuses =
-        recast (sym (unknown_work images words settings none))
+        recast (sym (unknown_work images words polls settings none))
         (last_alone (seen input before env) (seen input after env) (fault_line (UnknownNode words.id)) 16 code refl refuses)
 
     module _ (rank : ℕ) (some : Some rank ≡ rank_with settings words.id) (env_before : Outside) where
@@ -84,44 +85,47 @@ module _ (images : NodeImages) (words : NodeWords) (settings : Settings) where
       unfoldable pub works_unopened : (env_after : Outside) (code : ℕ)
           → Made env_before.faults env_after.faults env_before.calls env_after.calls (opening images words rank false ∷ [])
           → Refuses EnvFault before after code
-          → Works (node_work images words settings) (seen input before env_before) (seen input after env_after) code
+          → Works (node_work images words polls settings) (seen input before env_before) (seen input after env_after) code
       unfolding opened_work
       works_unopened env_after code made refuses =
-          recast (sym (known_work images words settings rank some))
+          recast (sym (known_work images words polls settings rank some))
           record { calls = opening images words rank false ∷ []; made = made; performs = (refl, (refl, refuses)) }
 
       -- the node was opened, and ran
       unfoldable pub works_ran : (env_middle env_after : Outside) (code : ℕ) (end : LiveEnd) (log : List Line)
           → Made env_before.faults env_middle.faults env_before.calls env_middle.calls (opening images words rank true ∷ [])
-          → Carries (node_plan images words settings rank) env_middle env_after (record { end = end; log = log })
+          → Carries (node_plan images words polls settings rank) env_middle env_after (record { end = end; log = log })
           → Says (end_outcome words.turns end).text (end_outcome words.turns end).status before after code
-          → Works (node_work images words settings) (seen input before env_before) (seen input after env_after) code
+          → Works (node_work images words polls settings) (seen input before env_before) (seen input after env_after) code
       unfolding opened_work run_work
       works_ran env_middle env_after code end log made did says =
           let left = plan_then_last (run_end words.turns) input before after env_middle env_after (end_outcome words.turns end).text
           (end_outcome words.turns end).status code did refl says in
-          recast (sym (known_work images words settings rank some))
+          recast (sym (known_work images words polls settings rank some))
           record { calls = opening images words rank true ∷ left.calls; made = made_then made left.made; performs = (refl, left.performs) }
 
 module _ (images : NodeImages) (words : NodeWords) (before after : Seen) (code : ℕ) (never_fall : NeverFall before after)
     (write : code ≡ 7 → WriteFails before.output after.output) where
   -- the settings are good
-  unfoldable pub runs_node : (settings : Settings) → ((rank : ℕ) → EndsWithCause images words settings rank) → Judges input_settings before.input after.input (Ok settings)
-      → Works (node_work images words settings) before after code → RanStatus code → (code ≡ 8 → FailsToOpen images words before.env after.env)
+  unfoldable pub runs_node : (polls : Option ℕ) (settings : Settings) → ((rank : ℕ) → EndsWithCause images words polls settings rank)
+      → ReadsNode before.input after.input settings polls
+      → Works (node_work images words polls settings) before after code → RanStatus code → (code ≡ 8 → FailsToOpen images words before.env after.env)
       → RunsNode images words before after code
-  runs_node settings law judges works outcomes unopened = record {
+  runs_node polls settings law reads works outcomes unopened = record {
+    polls = polls;
     ran = record {
       settings = Ok settings;
-      judges = judges;
+      judges = reads.judges;
       works = works;
       memory = λ eleven. absurd (not_ran code outcomes (inr eleven));
     };
+    polled = reads.polled;
     unopened = unopened;
-    clock_back = λ twelve rises. clock_went_back images words settings law works twelve rises;
-    halted = λ fourteen. boot_halted images words settings law works fourteen;
+    clock_back = λ twelve rises. clock_went_back images words polls settings law works twelve rises;
+    halted = λ fourteen. boot_halted images words polls settings law works fourteen;
     complete = λ memory no_read no_write no_call rises.
-        good_settings (EndsUndisturbed words.turns before.output after.output code) words before.input after.input settings judges no_read
-        (λ rank some. undisturbed_node images words settings rank (law rank) some works no_write no_call rises);
+        good_settings (EndsUndisturbed words.turns before.output after.output code) words before.input after.input settings reads.judges no_read
+        (λ rank some. undisturbed_node images words polls settings rank (law rank) some works no_write no_call rises);
     statuses = ran_status code outcomes;
     causes = record {
       never_fall = never_fall;
@@ -136,12 +140,14 @@ module _ (images : NodeImages) (words : NodeWords) (before after : Seen) (code :
       → Refuses why before.output after.output code → (code ≡ status_of why) ⊎ (code ≡ 7) → IsSettingsStatus (status_of why)
       → (status_of why ≡ 6 → ReadFails before.input after.input) → RunsNode images words before after code
   refuses_settings why judges same refuses own which read = record {
+    polls = None;
     ran = record {
       settings = Err why;
       judges = judges;
       works = last_alone before after (fault_line why) (status_of why) code same refuses;
       memory = λ eleven. wanted_of why (own_status code (status_of why) 11 (λ seven. omega arith) own eleven);
     };
+    polled = tt;
     unopened = λ eight. absurd (not_eight (status_of why) which (own_status code (status_of why) 8 (λ seven. omega arith) own eight));
     clock_back = λ twelve rises. not_ended (status_of why) which (inl (own_status code (status_of why) 12 (λ seven. omega arith) own twelve));
     halted = λ fourteen. absurd (not_ended (status_of why) which (inr (own_status code (status_of why) 14 (λ seven. omega arith) own fourteen)));

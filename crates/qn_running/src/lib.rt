@@ -6,6 +6,7 @@
 #![tactic(auto)]
 
 mod commands;
+mod node_text;
 mod node_texts;
 
 pub use commands::audit::{AuditWords, run_audit};

@@ -1,4 +1,4 @@
--- What a line of the journal says of an event: its name, its level and its words (this project's profile, docs/LIVE.md "The journal").
+-- What a line of the journal says of an event: its name, its level and its words (this project's profile, LIVE.md "The journal").
 use Rattle.std.specs.Prelude.{ℕ, List, [], ◌∷◌, ◌++◌, codes, decimal, slice_index, if◌then◌else◌}
 use Rattle.qn_event.specs.EventTexts.{EventText}
 use Rattle.qn_event.specs.declared.level.Level.{Level}

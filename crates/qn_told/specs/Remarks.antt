@@ -1,4 +1,4 @@
--- What a line of the journal says of bytes, of the clock and of the watchdog (this project's profile, docs/LIVE.md "The journal").
+-- What a line of the journal says of bytes, of the clock and of the watchdog (this project's profile, LIVE.md "The journal").
 use Rattle.std.specs.Prelude.{ℕ, Bool, List, [], ◌∷◌, Option, None, Some, false, codes, if◌then◌else◌}
 use Rattle.qn_base.specs.declared.ids.NodeId.{NodeId}
 use Rattle.qn_event.specs.EventLines.{head_of}
@@ -19,6 +19,15 @@ peer_seen at id = line at Information (codes "peer-seen") (number (codes "id") i
 -- a node is not heard for so many milliseconds
 abbrev pub peer_lost : Moment → NodeId → ℕ → EventText
 peer_lost at id silent = line at Warning (codes "peer-lost") (number (codes "id") id.0 ∷ number (codes "silent") silent ∷ [])
+
+-- the arbiter answered, in the view of that number
+abbrev pub device_answered : Moment → Bool → ℕ → EventText
+device_answered at agrees view =
+    line at Notice (codes "device") (truth (codes "answer") agrees ∷ number (codes "view") view ∷ [])
+
+-- the arbiter answered nothing for so many milliseconds
+abbrev pub device_silent : Moment → ℕ → EventText
+device_silent at age = line at Warning (codes "device-silent") (number (codes "age") age ∷ [])
 
 -- who wrote a message: a node, or an operator
 abbrev pub sender_words : Option Sender → List Word

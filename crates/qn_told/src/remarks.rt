@@ -1,6 +1,6 @@
 //! What is told besides the events of entries: of nodes that are heard, of the mailbox, of feeds, packets, and the end.
 ghost use Rattle.std.specs.Prelude.{◌≡◌};
-ghost use Rattle.qn_told.specs.Remarks.{ended, feeds_failed, mail_damaged, mail_failed, mail_told, packets_refused, peer_lost, peer_seen, sender_words};
+ghost use Rattle.qn_told.specs.Remarks.{device_answered, device_silent, ended, feeds_failed, mail_damaged, mail_failed, mail_told, packets_refused, peer_lost, peer_seen, sender_words};
 ghost use Rattle.qn_event.specs.WholeLines.{with_words};
 
 use qn_base::NodeId;
@@ -23,6 +23,25 @@ pub fn peer_lost(at: Moment, id: NodeId, silent: u64) -> EventLine
     let mut line = EventLine::new(at, Level::Warning, b"peer-lost");
     line.number(b"id", u64::from(id.0));
     line.number(b"silent", silent);
+    line
+}
+
+/// That the arbiter of the node answered in the view of that number.
+pub fn device_answered(at: Moment, agrees: bool, view: u64) -> EventLine
+    ensures { result ≡ device_answered at agrees view }
+{
+    let mut line = EventLine::new(at, Level::Notice, b"device");
+    line.truth(b"answer", agrees);
+    line.number(b"view", view);
+    line
+}
+
+/// That the arbiter of the node answered nothing for so many milliseconds.
+pub fn device_silent(at: Moment, age: u64) -> EventLine
+    ensures { result ≡ device_silent at age }
+{
+    let mut line = EventLine::new(at, Level::Warning, b"device-silent");
+    line.number(b"age", age);
     line
 }
 

@@ -188,7 +188,6 @@ node_words options =
         port = port;
         turns = turns;
         leave = leave;
-        polls = None;
         clean = clean;
       })
 

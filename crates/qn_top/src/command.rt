@@ -361,7 +361,6 @@ fn node_words(options: &[String]) -> Option<NodeWords<'_>>
         port: port as u16,
         turns,
         leave,
-        polls: None,
         clean,
     })
 }

@@ -1,12 +1,13 @@
 //! Reads the files that the words before the command name: the addresses and the digests of a settings text, and keys. Of the first that
 //! is wrong a line on standard error says what is; nothing was opened then but these files.
 use crate::PROGRAM;
-use crate::before::{Before, MOST_KEYS};
+use crate::before::{Before, MOST_KEYS, is_running};
 use crate::same_text::Text;
 use qn_commands::Fault;
 use qn_conf::{MOST_TEXT_BYTES, Tree, read_tree};
 use qn_links::{
-    ArbiterPlace, Links, Meaning, arbiter_of, device_of, links_of, meaning_of, sections_of,
+    ArbiterFault, ArbiterPlace, Links, Meaning, NodeSection, arbiter_of, device_of, links_of,
+    meaning_of, name_of, sections_of,
 };
 use qn_machine::{ArbiterAt, Edge, Guard, Overwrites};
 use qn_model::Settings;
@@ -27,12 +28,19 @@ const MOST_KEY: u64 = 4096;
 /// The command that runs an arbiter.
 pub const ARBITER: &str = "arbiter";
 
+/// A settings text that was read, and the names of its nodes by rank, of those that can be shown.
+#[derive(Drop)]
+pub struct NamedText<'words> {
+    pub text: Text<'words>,
+    pub names: Vec<Option<String>>,
+}
+
 /// What of the outside these words say before that command, and the settings text that was read; or the status to end with.
 pub fn edge_of<'words, R: Files<File = File> + AllocGlobal + Eprint>(
     rt: &R,
     before: &Before<'words>,
     command: &str,
-) -> Result<(Edge, Option<Text<'words>>), u8> {
+) -> Result<(Edge, Option<NamedText<'words>>), u8> {
     let mut edge = Edge::local();
     if before.is_anew {
         edge.overwrites = Overwrites::Anything;
@@ -54,36 +62,42 @@ pub fn edge_of<'words, R: Files<File = File> + AllocGlobal + Eprint>(
         Some(path) => {
             let bytes = read_file(rt, path, MOST_TEXT_BYTES as u64 + 1)?;
             let text = Text { path, bytes };
-            take_text(rt, before, &text, command, &mut edge)?;
-            Some(text)
+            let names = take_text(rt, before, &text, command, &mut edge)?;
+            Some(NamedText { text, names })
         }
         None => None,
     };
     Ok((edge, text))
 }
 
-/// Takes what a settings text says: where the nodes are, before an arbiter where that is, and what stands for the text in a tag.
+/// Takes what a settings text says: where the nodes and their arbiter are, and what stands for the text in a tag; and gives how the
+/// nodes are called.
 fn take_text<R: AllocGlobal + Eprint>(
     rt: &R,
     before: &Before<'_>,
     text: &Text<'_>,
     command: &str,
     edge: &mut Edge,
-) -> Result<(), u8> {
+) -> Result<Vec<Option<String>>, u8> {
     let (path, bytes) = (text.path, text.bytes.as_slice());
     let tree = read_whole(rt, path, bytes)?;
     let settings = read_settings(rt, path, &tree)?;
-    let links = read_links(rt, path, &tree, &settings)?;
-    let net = device_of(rt.alloc(), &tree).map_err(|_| NO_MEMORY)?;
-    let arbiter = arbiter_of(net, &links);
+    let sections = sections_of(rt.alloc(), &tree).map_err(|_| NO_MEMORY)?;
+    let links = read_links(rt, path, sections.as_slice(), &settings)?;
+    let arbiter = arbiter_of(device_of(&tree), &links);
     edge.texts = texts_of(before, bytes, &settings, &links, arbiter.ok());
-    if command == ARBITER {
-        let place = arbiter.map_err(|fault| refuse(rt, path, fault))?;
-        let ArbiterPlace { address, port } = place;
-        edge.arbiter = Some(ArbiterAt { address, port });
-    }
+    edge.arbiter = match arbiter {
+        Ok(ArbiterPlace { address, port }) => Some(ArbiterAt { address, port }),
+        Err(fault) if command == ARBITER => return Err(refuse(rt, path, fault)),
+        Err(fault) => {
+            if is_running(command) && settings.device.is_some() {
+                say_unpolled(rt, path, fault);
+            }
+            None
+        }
+    };
     edge.addresses = Some(links);
-    Ok(())
+    read_names(rt, path, sections.as_slice(), &settings)
 }
 
 /// What stands for a settings text in a tag: what is sealed beside is its bytes, or what it says where that was said before the command. The
@@ -115,6 +129,18 @@ fn texts_of(
 fn refuse<E: Eprint, W: Display + Drop>(errors: &E, path: &str, why: W) -> u8 {
     let _ = eprintln!(errors; "{PROGRAM}: {path}: {why}");
     USAGE
+}
+
+/// Says why a node polls no arbiter though its text has a host of one. That it cannot be said is no fault.
+fn say_unpolled<E: Eprint>(errors: &E, path: &str, fault: ArbiterFault<'_>) {
+    match fault {
+        ArbiterFault::NoHost => {}
+        ArbiterFault::NotAddress { .. }
+        | ArbiterFault::OtherFamily { .. }
+        | ArbiterFault::NotPort { .. } => {
+            let _ = eprintln!(errors; "{PROGRAM}: {path}: {fault}: no arbiter is polled");
+        }
+    }
 }
 
 /// The bytes of a file, of a longer one so many.
@@ -229,16 +255,38 @@ fn read_settings<R: AllocGlobal + Eprint>(
 fn read_links<R: AllocGlobal + Eprint>(
     rt: &R,
     path: &str,
-    tree: &Tree<'_>,
+    sections: &[NodeSection<'_>],
     settings: &Settings,
 ) -> Result<Links, u8> {
-    let sections = sections_of(rt.alloc(), tree).map_err(|_| NO_MEMORY)?;
     if sections.iter().any(|section| section.has_second) {
         let _ = eprintln!(rt; "{PROGRAM}: ring1_addr is not used");
     }
-    links_of(sections.as_slice(), settings.nodes.as_slice()).map_err(|fault| refuse(
-        rt, path, fault,
-    ))
+    links_of(sections, settings.nodes.as_slice()).map_err(|fault| refuse(rt, path, fault))
+}
+
+/// The names of the nodes by rank. Of a name that cannot be shown a line says why.
+fn read_names<R: AllocGlobal + Eprint>(
+    rt: &R,
+    path: &str,
+    sections: &[NodeSection<'_>],
+    settings: &Settings,
+) -> Result<Vec<Option<String>>, u8> {
+    let mut names = Vec::new(rt.alloc());
+    for node in settings.nodes.as_slice() {
+        let name = match name_of(sections, node.id) {
+            Ok(Some(name)) => Some(String::from_str(rt.alloc(), name).map_err(|_| NO_MEMORY)?),
+            Ok(None) => None,
+            Err(fault) => {
+                let id = node.id.0;
+                let _ = eprintln!(rt;
+                    "{PROGRAM}: {path}: the name of node {id} {fault}: its id is shown"
+                );
+                None
+            }
+        };
+        names.push(name).map_err(|_| NO_MEMORY)?;
+    }
+    Ok(names)
 }
 
 /// Says what `create` would answer for the text.

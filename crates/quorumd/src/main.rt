@@ -12,17 +12,17 @@ mod edge;
 mod same_text;
 
 use before::{Before, WordFault, is_running};
-use edge::edge_of;
+use edge::{NamedText, edge_of};
 use qn_base::read_decimal;
 use qn_io::put_all;
-use qn_journal::Journal;
+use qn_journal::{Journal, NodeNames};
 use qn_machine::{Edge, Lines, RealEnv, ReplacedFile, StdSink, StdSource, SteadyHost};
 use qn_top::top;
 use qn_usage::{
     BEFORE, NO_MEMORY, QUORUMD, USAGE, WRITE_FAULT, help_text, refusal_of, version_text,
     words_given,
 };
-use same_text::{SameText, Text};
+use same_text::SameText;
 use std::fs::File;
 use std::process::{self, ExitCode};
 use std::rt::{Env, Files};
@@ -54,10 +54,12 @@ fn run(rt: &HostRuntime, said: Outside<'_>, words: &[String]) -> u8 {
     let host = SteadyHost::new(rt);
     let lines = Lines::new(id_in(words), is_in_journal(rt));
     let input = StdSource::new(rt.reader(), lines.over(rt));
-    let mut input = SameText::new(input, lines.over(rt), said.text.as_ref());
+    let text = said.text.as_ref();
+    let mut input = SameText::new(input, lines.over(rt), text.map(|named| &named.text));
     let mut out = StdSink::new(io::writer(rt), lines.over(rt));
     let mut env = RealEnv::new(SteadyHost::new(rt), said.edge, &lines);
-    let mut journal = journal_of(&host, process::id(rt.process()), &lines, said.files);
+    let names = NodeNames::new(text.map_or(&[], |named| named.names.as_slice()));
+    let mut journal = journal_of(&host, process::id(rt.process()), &lines, said.files, names);
     let status = top(
         rt.alloc(),
         words,
@@ -72,16 +74,17 @@ fn run(rt: &HostRuntime, said: Outside<'_>, words: &[String]) -> u8 {
     status
 }
 
-/// The journal of a node, of the process of that number, with the files of these paths.
+/// The journal of a node, of the process of that number, with the files of these paths and these names of the nodes.
 #[inline(never)]
 fn journal_of<'a, 'host>(
     host: &'a SteadyHost<'host>,
     pid: u32,
     lines: &'a Lines,
     files: NodeFiles<'a>,
+    names: NodeNames<'a>,
 ) -> Journal<'a, SteadyHost<'host>> {
     let status = files.status.and_then(ReplacedFile::at);
-    Journal::new(host, lines, status, files.group, pid)
+    Journal::new(host, lines, status, files.group, names, pid)
 }
 
 /// Whether standard error goes to systemd's journal.
@@ -102,7 +105,7 @@ struct NodeFiles<'words> {
 struct Outside<'words> {
     edge: Edge,
     files: NodeFiles<'words>,
-    text: Option<Text<'words>>,
+    text: Option<NamedText<'words>>,
 }
 
 /// What the words before the command say, and the words after them; or the status to end with.

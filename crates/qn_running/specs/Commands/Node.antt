@@ -27,6 +27,7 @@ use Rattle.qn_commands.specs.declared.status.Status.TheVariants as status
 use Rattle.qn_commands.specs.Endings.{AnswersWhole, refused}
 use Rattle.qn_commands.specs.InputSettings.{WorksOnSettings, input_settings}
 use Rattle.qn_running.specs.NodeTexts.{end_outcome}
+use Rattle.qn_running.specs.Polls.{PollsBy}
 use Rattle.qn_commands.specs.Seen.{CallFails, Outside, Output, ReadFails, Seen, WriteFails}
 use Rattle.qn_commands.specs.Statuses.{HasCauses, IsOneOf}
 use Rattle.qn_commands.specs.Works.{Last, Makes, Work, after_plan, refusal}
@@ -43,9 +44,9 @@ opening images words rank ok = OpenNode (image_count images) words.image words.w
 abbrev pub run_end : ℕ → Ran → Work
 run_end turns ran = Last (end_outcome turns ran.end).text (end_outcome turns ran.end).status
 
--- the run of the node of that rank
-abbrev pub node_plan : NodeImages → NodeWords → Settings → ℕ → Plan Ran
-node_plan images words settings rank = plan_on images settings rank words.clean words.leave words.polls words.turns
+-- the run of the node of that rank, which polls its arbiter within that limit, where it has one
+abbrev pub node_plan : NodeImages → NodeWords → Option ℕ → Settings → ℕ → Plan Ran
+node_plan images words polls settings rank = plan_on images settings rank words.clean words.leave polls words.turns
 
 -- the boot of the node of that rank was halted for this cause by a disk operation that failed, the last of these calls
 abbrev pub HaltedOn : NodeImages → Settings → ℕ → BootCause → List Call → Type 0
@@ -54,32 +55,32 @@ HaltedOn Three settings rank cause calls = HaltedOnThree settings rank cause cal
 
 -- where no call fails, no failed call ends a run of the node, and where no tick falls, no clock does; a boot that a failed call
 -- halted was halted by the operation that the call was made for
-pub record EndsWithCause (images : NodeImages) (words : NodeWords) (settings : Settings) (rank : ℕ) : Type 0 where
-  pub call : (calls : List Call) (ran : Ran) → Follows (node_plan images words settings rank) calls ran
+pub record EndsWithCause (images : NodeImages) (words : NodeWords) (polls : Option ℕ) (settings : Settings) (rank : ℕ) : Type 0 where
+  pub call : (calls : List Call) (ran : Ran) → Follows (node_plan images words polls settings rank) calls ran
       → some_failed calls ≡ false → is_by_call ran.end ≡ false
-  pub clock : (calls : List Call) (ran : Ran) → Follows (node_plan images words settings rank) calls ran
+  pub clock : (calls : List Call) (ran : Ran) → Follows (node_plan images words polls settings rank) calls ran
       → NeverFalls 0 calls → is_by_clock ran.end ≡ false
   pub halted : (calls : List Call) (ran : Ran) (cause : BootCause)
-      → Follows (node_plan images words settings rank) calls ran → ran.end ≡ end.BootHalted cause
+      → Follows (node_plan images words polls settings rank) calls ran → ran.end ≡ end.BootHalted cause
       → is_no_failure cause ≡ false → HaltedOn images settings rank cause calls
 
 -- the run, and its last line
-unfoldable pub run_work : NodeImages → NodeWords → Settings → ℕ → Work
-run_work images words settings rank = after_plan (node_plan images words settings rank) (run_end words.turns)
+unfoldable pub run_work : NodeImages → NodeWords → Option ℕ → Settings → ℕ → Work
+run_work images words polls settings rank = after_plan (node_plan images words polls settings rank) (run_end words.turns)
 
 -- once it is opened
 abbrev pub after_opening : Work → Call → Work
 after_opening run call = if is_failed call then refusal EnvFault else run
 
 -- the opening of the node of that rank, and its run
-unfoldable pub opened_work : NodeImages → NodeWords → Settings → ℕ → Work
-opened_work images words settings rank =
-    Makes (opening images words rank true) (after_opening (run_work images words settings rank))
+unfoldable pub opened_work : NodeImages → NodeWords → Option ℕ → Settings → ℕ → Work
+opened_work images words polls settings rank =
+    Makes (opening images words rank true) (after_opening (run_work images words polls settings rank))
 
 -- once the settings are read: the id is looked for before anything is opened
-unfoldable pub node_work : NodeImages → NodeWords → Settings → Work
-node_work images words settings =
-    option_map_or (opened_work images words settings) (rank_with settings words.id) (refusal (UnknownNode words.id))
+unfoldable pub node_work : NodeImages → NodeWords → Option ℕ → Settings → Work
+node_work images words polls settings =
+    option_map_or (opened_work images words polls settings) (rank_with settings words.id) (refusal (UnknownNode words.id))
 
 -- the opening failed, and no other call was made
 pub record FailsToOpen (images : NodeImages) (words : NodeWords) (before after : Outside) : Type 0 where
@@ -103,12 +104,14 @@ pub record EndsUndisturbed (turns : ℕ) (before after : Output) (code : ℕ) : 
   pub no_clock : is_by_clock end ≡ false
   pub answers : AnswersWhole (end_outcome turns end) before after code
 
--- The whole input is read and judged, and then the id, before anything is called. Then the node is opened and runs: exactly
--- these calls are made, and the last line is that of the end of the run. Nothing is written before. Memory is taken for
+-- The whole input is read and judged, and then the id, before anything is called. Then the node is opened and runs, and polls
+-- where its text names an arbiter: exactly these calls are made, and the last line is that of the end of the run. Nothing is written before. Memory is taken for
 -- the settings text alone. Where nothing failed, no tick fell and memory sufficed, and the id is in good settings, the node
 -- handled its last turn, left, read a deadly message, or was halted in its boot by what stands in the image.
 pub record RunsNode (images : NodeImages) (words : NodeWords) (before after : Seen) (code : ℕ) : Type 0 where
-  pub ran : WorksOnSettings (node_work images words) before after code
+  pub polls : Option ℕ
+  pub ran : WorksOnSettings (node_work images words polls) before after code
+  pub polled : IfOk ran.settings (λ settings. PollsBy ran.judges.read settings polls)
   pub unopened : code ≡ 8 → FailsToOpen images words before.env after.env
   pub clock_back : code ≡ 12 → ¬ NeverFalls 0 ran.works.calls
   pub halted : code ≡ 14 → HaltsBoot images words ran.settings ran.works.calls before after code

@@ -81,29 +81,29 @@ WritesLog false calls before after =
     AppendsFront before.written after.written (log_text calls) × WriteFails before after
 
 -- the opened node of that rank ran and ended so, and its calls were recorded
-pub record RunsLogged (images : NodeImages) (words : NodeWords) (settings : Settings) (rank : ℕ) (before after : Output)
+pub record RunsLogged (images : NodeImages) (words : NodeWords) (polls : Option ℕ) (settings : Settings) (rank : ℕ) (before after : Output)
     (env_before env_after : Outside) (end : LiveEnd) (whole : Bool) : Type 0 where
   pub log : List Line
-  pub did : Carries (plan_on images settings rank words.clean words.leave words.polls words.turns) env_before env_after (record { end = end; log = log })
+  pub did : Carries (plan_on images settings rank words.clean words.leave polls words.turns) env_before env_after (record { end = end; log = log })
   pub writes : WritesLog whole did.calls before after
 
 -- the work of `node` was done, and its last line follows the log of its calls
-pub record WorksWhole (images : NodeImages) (words : NodeWords) (settings : Settings) (before after : Seen) (code : ℕ) : Type 0 where
+pub record WorksWhole (images : NodeImages) (words : NodeWords) (polls : Option ℕ) (settings : Settings) (before after : Seen) (code : ℕ) : Type 0 where
   pub calls : List Call
-  pub works : Works (node_work images words settings) (after_log before calls) after code
+  pub works : Works (node_work images words polls settings) (after_log before calls) after code
   pub same : recorded_calls works.calls ≡ calls
 
 -- the work of `node` was done but for its last line, and of the log of its calls a prefix was written
-pub record WorksCut (images : NodeImages) (words : NodeWords) (settings : Settings) (before after : Seen) (code : ℕ) : Type 0 where
+pub record WorksCut (images : NodeImages) (words : NodeWords) (polls : Option ℕ) (settings : Settings) (before after : Seen) (code : ℕ) : Type 0 where
   pub last : Output
   pub own : ℕ
-  pub works : Works (node_work images words settings) before (with_output after last) own
+  pub works : Works (node_work images words polls settings) before (with_output after last) own
   pub ended : IsOneOf (status.Done ∷ status.ClockBack ∷ status.SelfReset ∷ status.BootHalted ∷ []) own
   pub front : AppendsFront before.output.written after.output.written (log_text (recorded_calls works.calls))
   pub fails : WriteFails before.output after.output
   pub never_falls : before.output.faults ≤ last.faults
   pub is : code ≡ 7
 
-pub data WorksLogged (images : NodeImages) (words : NodeWords) (settings : Settings) (before after : Seen) (code : ℕ) : Type 0 where
-  WorkedWhole : WorksWhole images words settings before after code → WorksLogged images words settings before after code
-  WorkedCut : WorksCut images words settings before after code → WorksLogged images words settings before after code
+pub data WorksLogged (images : NodeImages) (words : NodeWords) (polls : Option ℕ) (settings : Settings) (before after : Seen) (code : ℕ) : Type 0 where
+  WorkedWhole : WorksWhole images words polls settings before after code → WorksLogged images words polls settings before after code
+  WorkedCut : WorksCut images words polls settings before after code → WorksLogged images words polls settings before after code

@@ -8,13 +8,13 @@ ghost use Rattle.qn_commands.specs.Seen.{Input, Outside, outside, seen, sink, so
 ghost use Rattle.qn_commands.specs.Statuses.{IsOneOf, code_of};
 
 use crate::commands::node::{NodeWords, law_node_ends, open};
+use crate::node_text::{NodeText, read_node_text};
 use crate::node_texts::finish_node;
 use qn_audit::{Recorder, run_recorded};
 use qn_base::{Failed, Rank};
-use qn_commands::{Fault, Status, read_settings, refuse};
+use qn_commands::{Fault, Status, refuse};
 use qn_io::{Env, Sink, Source};
 use qn_live::{LiveEnd, NodeImages, Notices};
-use qn_model::Settings;
 use std::alloc::Global;
 
 /// `node-logged`, and on three images `node3-logged`: runs the node as `node` and `node3` do, and writes each of its calls with its answer as a line before the next
@@ -37,8 +37,8 @@ pub fn node_logged<I: Source, O: Sink, E: Env, N: Notices>(
         LogsNode images words.now before after (code_of result) }
 {
     law_node_ends();
-    match read_settings(alloc, input) {
-        Ok(settings) => open_and_record(images, words, &settings, out, env, notices),
+    match read_node_text(alloc, input) {
+        Ok(text) => open_and_record(images, words, &text, out, env, notices),
         Err(fault) => refuse(out, fault),
     }
 }
@@ -47,19 +47,20 @@ pub fn node_logged<I: Source, O: Sink, E: Env, N: Notices>(
 fn open_and_record<O: Sink, E: Env, N: Notices>(
     images: NodeImages,
     words: &NodeWords<'_>,
-    settings: &Settings,
+    text: &NodeText,
     out: &mut O,
     env: &mut E,
     notices: &mut N,
 ) -> Status
-    requires valid { IsValid settings.now }
+    requires valid { IsValid text.now.settings }
     requires some_turn { 1 ≤ words.now.turns }
     ensures works { (input : Input) →
         let before = seen input (sink O.written O.faults out.old)
         (outside E.calls E.faults env.old) in
         let after = seen input (sink O.written O.faults out.new)
         (outside E.calls E.faults env.new) in
-        WorksLogged images words.now settings.now before after (code_of result) }
+        WorksLogged images words.now text.now.polls text.now.settings before after
+        (code_of result) }
     ensures unopened { code_of result ≡ 8 → FailsToOpen images words.now
         (outside E.calls E.faults env.old) (outside E.calls E.faults env.new) }
     ensures outcomes { IsOneOf (Status.Done ∷ Status.WriteFault ∷ Status.EnvFault ∷ Status.ClockBack
@@ -68,11 +69,11 @@ fn open_and_record<O: Sink, E: Env, N: Notices>(
     ensures env_faults { E.faults env.old ≤ E.faults env.new }
     ensures sink_faults { O.faults out.old ≤ O.faults out.new }
 {
-    let Some(rank) = settings.nodes.rank_of(u64::from(words.id.0)) else {
+    let Some(rank) = text.settings.nodes.rank_of(u64::from(words.id.0)) else {
         return refuse(out, Fault::UnknownNode { id: words.id });
     };
     match open(images, words, rank, env) {
-        Ok(()) => run_and_finish(images, words, settings, rank, out, env, notices),
+        Ok(()) => run_and_finish(images, words, text, rank, out, env, notices),
         Err(Failed) => refuse(out, Fault::EnvFault),
     }
 }
@@ -82,19 +83,19 @@ fn open_and_record<O: Sink, E: Env, N: Notices>(
 fn run_and_finish<O: Sink, E: Env, N: Notices>(
     images: NodeImages,
     words: &NodeWords<'_>,
-    settings: &Settings,
+    text: &NodeText,
     rank: Rank,
     out: &mut O,
     env: &mut E,
     notices: &mut N,
 ) -> Status
-    requires valid { IsValid settings.now }
-    requires configured { rank.0 < length settings.now.nodes }
+    requires valid { IsValid text.now.settings }
+    requires configured { rank.0 < length text.now.settings.nodes }
     requires some_turn { 1 ≤ words.now.turns }
     ensures works { (input : Input) (first : Outside)
         → Opens images words.now rank.0 first (outside E.calls E.faults env.old)
-        → Some rank.0 ≡ rank_with settings.now words.now.id
-        → WorksLogged images words.now settings.now
+        → Some rank.0 ≡ rank_with text.now.settings words.now.id
+        → WorksLogged images words.now text.now.polls text.now.settings
         (seen input (sink O.written O.faults out.old) first)
         (seen input (sink O.written O.faults out.new) (outside E.calls E.faults env.new))
         (code_of result) }
@@ -104,7 +105,7 @@ fn run_and_finish<O: Sink, E: Env, N: Notices>(
     ensures env_faults { E.faults env.old ≤ E.faults env.new }
     ensures sink_faults { O.faults out.old ≤ O.faults out.new }
 {
-    let (end, whole) = run_and_record(images, words, settings, rank, out, env, notices);
+    let (end, whole) = run_and_record(images, words, text, rank, out, env, notices);
     if !whole {
         return Status::WriteFault;
     }
@@ -115,16 +116,16 @@ fn run_and_finish<O: Sink, E: Env, N: Notices>(
 fn run_and_record<O: Sink, E: Env, N: Notices>(
     images: NodeImages,
     words: &NodeWords<'_>,
-    settings: &Settings,
+    text: &NodeText,
     rank: Rank,
     out: &mut O,
     env: &mut E,
     notices: &mut N,
 ) -> (LiveEnd, bool)
-    requires valid { IsValid settings.now }
-    requires configured { rank.0 < length settings.now.nodes }
+    requires valid { IsValid text.now.settings }
+    requires configured { rank.0 < length text.now.settings.nodes }
     requires some_turn { 1 ≤ words.now.turns }
-    ensures did { RunsLogged images words.now settings.now rank.0
+    ensures did { RunsLogged images words.now text.now.polls text.now.settings rank.0
         (sink O.written O.faults out.old) (sink O.written O.faults out.new)
         (outside E.calls E.faults env.old) (outside E.calls E.faults env.new) result.0 result.1 }
     ensures env_faults { E.faults env.old ≤ E.faults env.new }
@@ -135,11 +136,11 @@ fn run_and_record<O: Sink, E: Env, N: Notices>(
         &mut recorder,
         notices,
         images,
-        settings,
+        &text.settings,
         rank,
         words.clean,
         words.leave,
-        words.polls,
+        text.polls,
         words.turns,
     );
     (end, recorder.is_whole())

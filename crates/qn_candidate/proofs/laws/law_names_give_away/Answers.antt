@@ -31,15 +31,9 @@ given_by s me log seen there =
     (least_from (length s.nodes) 0 (λ rank. option_map_or (λ view. is_member view.members rank) v false && option_map_or (λ view. is_named view rank) v false)) false)
     there
 
-first_true : (a b : Bool) → a ≡ true → (a || b) ≡ true
-first_true a b e = ap (λ x. x || b) e
-
 second_true : (a b : Bool) → b ≡ true → (a || b) ≡ true
 second_true true b e = refl
 second_true false b e = e
-
-neither : (a b : Bool) → a ≡ false → b ≡ false → (a || b) ≡ false
-neither a b first second = ap₂ (λ x y. x || y) first second
 
 other_of : (me : ℕ) (found : Option ℕ) (rank : ℕ) → found ≡ Some rank → rank ≢ me → option_map_or (λ rank. not (rank == me)) found false ≡ true
 other_of me found rank is other =
@@ -63,8 +57,7 @@ all_four held gone poor away again a b c =
 pub returns-clause-barred : goal.returns-clause-barred
 returns-clause-barred c = λ s me log seen there barred.
     given_by s me log seen there
-    ∙ first_true (seen.id / 2 ^ 56 == 254)
-    (option_map_or (λ rank. not (rank == me)) (least_from (length s.nodes) 0 (λ r. is_member seen.members r && (seen.id / 2 ^ 56 == r + 1))) false) barred
+    ∙ ap (λ x. x || option_map_or (λ rank. not (rank == me)) (least_from (length s.nodes) 0 (λ r. is_member seen.members r && (seen.id / 2 ^ 56 == r + 1))) false) barred
 
 pub returns-clause-another : goal.returns-clause-another
 returns-clause-another c = λ s me log seen rank there named member within other.
@@ -78,8 +71,7 @@ pub returns-clause-itself : goal.returns-clause-itself
 returns-clause-itself c = λ s me log seen there named few.
     let own : seen.id / 2 ^ 56 ≡ me + 1 = eqb-true _ _ named in
     given_by s me log seen there
-    ∙ neither (seen.id / 2 ^ 56 == 254)
-    (option_map_or (λ rank. not (rank == me)) (least_from (length s.nodes) 0 (λ r. is_member seen.members r && (seen.id / 2 ^ 56 == r + 1))) false)
+    ∙ ap₂ (λ x y. x || y)
     (ne_eqb (seen.id / 2 ^ 56) 254 (λ e. omega arith))
     (itself_of (length s.nodes) me (seen.id / 2 ^ 56) seen.members (least_from (length s.nodes) 0 (λ r. is_member seen.members r && (seen.id / 2 ^ 56 == r + 1))) own refl)
 
@@ -87,8 +79,7 @@ pub returns-clause-plain : goal.returns-clause-plain
 returns-clause-plain c = λ s me log seen there none few.
     let high = seen.id / 2 ^ 56 in
     given_by s me log seen there
-    ∙ neither (high == 254)
-    (option_map_or (λ rank. not (rank == me)) (least_from (length s.nodes) 0 (λ r. is_member seen.members r && (high == r + 1))) false)
+    ∙ ap₂ (λ x y. x || y)
     (second_of_neither (nat_lt 0 high && nat_lt high 33) (high == 254) none)
     (ap (λ o. option_map_or (λ rank. not (rank == me)) o false)
     (named_none (length s.nodes) high seen.members few (first_of_neither (nat_lt 0 high && nat_lt high 33) (high == 254) none)))

@@ -4,4 +4,4 @@ use Rattle.qn_joined.proofs.laws.law_looks_as_node.Goals as goal
 pub returns : goal.returns
 returns c = λ s rank host chosen n took took' left left' all time tick is on asked clock logs spends said.
     handed_at s rank n took took' left left' all host chosen time tick is on asked clock logs spends
-    (plain_looked tick chosen.1.poller chosen.0 chosen.1.maker) (answer_looked tick chosen.1.poller chosen.0 chosen.1.maker) said
+    (plain_looked tick chosen) (answer_looked tick chosen) said

@@ -10,6 +10,8 @@ use Rattle.qn_live.specs.Choosing.{choice_in, choice_where, heard_request}
 use Rattle.qn_live.specs.Machine.{HasMore, acting, clocking, left_at, next_of, parting, polling, receiving, saying, state_of, timing}
 use Rattle.qn_live.specs.Greetings.{farewells, to_send}
 use Rattle.qn_live.specs.Running.{later}
+use Rattle.qn_live.specs.Words.{words_after}
+use Rattle.qn_live.specs.declared.words.Words.{Words}
 use Rattle.qn_live.specs.Runs.{timed}
 use Rattle.qn_live.proofs.Joining.{choice_by_poller, acting_more, asked_call, left_call, parting_more, saying_more, stands_too}
 use Rattle.qn_live.proofs.run.NodeRun.answer.Goals as goal
@@ -32,8 +34,11 @@ returns-in-Receive-clause-runs c = λ plan call h tells asked.
           (sym (choice_by_poller run.poller run.me.0 _)
           ∙ ap (λ (polls : Bool). choice_where polls run.me.0 (received c.args.given.got c.args.room.now.packet)) (sym c.is_some.ensures) ∙ sym c.choose.ensures)
           ∙ ap
-          (λ asked. timed run.settings run.me.0 (c.choose.result, record (state_of run h.log) { asked = asked }) >>= later (next_of run))
-          (sym c.heard_request-self.ensures);
+          (λ asked. timed run.settings run.me.0 (c.choose.result, record (state_of run h.log) { asked = asked; words = (heard_request (received c.args.given.got c.args.room.now.packet) (state_of run h.log)).words }) >>= later (next_of run))
+          (sym c.heard_request-self.ensures)
+          ∙ ap
+          (λ (words : Words). timed run.settings run.me.0 (c.choose.result, record (state_of run h.log) { asked = c.heard_request-self.result; words = words }) >>= later (next_of run))
+          (ap (λ tick. words_after tick (received c.args.given.got c.args.room.now.packet) run.words) (sym h.stands.at) ∙ sym c.after-self.ensures);
     }
 
 pub returns-in-Now-clause-runs : goal.returns-in-Now-clause-runs

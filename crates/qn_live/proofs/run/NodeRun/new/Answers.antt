@@ -1,6 +1,8 @@
-use Rattle.std.proofs.Common.{[], Option, refl, ap, sym, ◌-◌, ◌∙◌}
+use Rattle.std.proofs.Common.{[], Option, option_map, refl, ap, sym, ◌-◌, ◌∙◌}
 use Rattle.qn_base.specs.Plans.{◌>>=◌}
+use Rattle.qn_polls.specs.Poller.{poller_of}
 use Rattle.qn_safety.specs.Poller.{Poller}
+use Rattle.qn_live.specs.declared.words.Words.{Words}
 use Rattle.qn_live.specs.declared.place.Choice.TheVariants as choice
 use Rattle.qn_live.specs.Running.{first_state, later}
 use Rattle.qn_live.specs.Runs.{run_plan, timed}
@@ -16,5 +18,8 @@ returns-clause-runs c = record {
       live_left c.args.settings c.args.me.0 c.args.clean c.args.leave_at c.args.polls c.args.turns c.begin.result c.begin.ensures
       ∙ ap
       (λ (poller : Option Poller). timed c.args.settings c.args.me.0 (choice.Whole c.begin.result, record (first_state c.args.polls) { poller = poller }) >>= later (run_plan c.args.settings c.args.me.0 c.args.leave_at 2 (c.args.turns - 1)))
-      (sym c.fresh.ensures);
+      (sym c.fresh.ensures)
+      ∙ ap
+      (λ (words : Words). timed c.args.settings c.args.me.0 (choice.Whole c.begin.result, record (first_state c.args.polls) { poller = option_map poller_of c.fresh.result; words = words }) >>= later (run_plan c.args.settings c.args.me.0 c.args.leave_at 2 (c.args.turns - 1)))
+      (sym c.none.ensures);
 }

@@ -1,6 +1,7 @@
 use Rattle.std.proofs.Common.{◌≡◌, None, sym, ap, ◌∙◌}
 use Rattle.qn_base.specs.Plans.{◌>>=◌}
-use Rattle.qn_live.specs.Greetings.{maker_of, maker_where}
+use Rattle.qn_live.specs.Greetings.{maker_begun, maker_of, maker_where}
+use Rattle.qn_model.specs.Phases.{is_live, phase}
 use Rattle.std.proofs.Common.{Option}
 use Rattle.qn_safety.specs.declared.polls.Poll.{Poll}
 use Rattle.qn_live.specs.declared.run.NodeRun.{NodeRun}
@@ -28,7 +29,8 @@ returns-in-Some-next_poll-clause-runs c = λ log stands.
     let none : end_in run.entry run.outs ≡ None = sym c.end_in.ensures ∙ c.in_default.is in
     let present : c.keep_member.new.member ≡ maker_of run.settings run.me.0 (state_of run log) =
     c.keep_member.ensures
-    ∙ ap (λ live. maker_where live run.settings run.me.0 run.loop_ms run.member) (c.is_live-live.ensures log stands) in
+    ∙ ap (λ live. maker_where live (maker_begun run.settings run.me.0 run.loop_ms c.own-own.result) run.member) (c.is_live-live.ensures log stands)
+    ∙ ap (λ own. maker_where (is_live (phase run.settings log)) (maker_begun run.settings run.me.0 run.loop_ms own) run.member) (c.own-own.ensures log stands) in
     let st : RunState = polled run.settings run.me.0 due run.entry (state_of asked log) in
     let here : StandsFor run.settings run.me.0 run.node run.tick log = stands in
     let greets =
@@ -63,7 +65,8 @@ returns-in-None-clause-runs c = λ log stands.
     let none : end_in run.entry run.outs ≡ None = sym c.end_in.ensures ∙ c.in_default.is in
     let present : c.keep_member.new.member ≡ maker_of run.settings run.me.0 (state_of run log) =
     c.keep_member.ensures
-    ∙ ap (λ live. maker_where live run.settings run.me.0 run.loop_ms run.member) (c.is_live-live.ensures log stands) in
+    ∙ ap (λ live. maker_where live (maker_begun run.settings run.me.0 run.loop_ms c.own-own.result) run.member) (c.is_live-live.ensures log stands)
+    ∙ ap (λ own. maker_where (is_live (phase run.settings log)) (maker_begun run.settings run.me.0 run.loop_ms own) run.member) (c.own-own.ensures log stands) in
     let st : RunState = polled run.settings run.me.0 due run.entry (state_of asked log) in
     let here : StandsFor run.settings run.me.0 run.node run.tick log = stands in
     let greets =

@@ -11,10 +11,10 @@ returns-clause-did g c =
     let first = c.new-recorder.result in
     let last = c.run_recorded-end.new.recorder in
     of_equals (λ env_before env_after before after.
-    RunsLogged c.args.images c.args.words.now c.args.settings.now c.args.rank.0 (sink g.O.Sink.written g.O.Sink.faults before) (sink g.O.Sink.written g.O.Sink.faults after)
+    RunsLogged c.args.images c.args.words.now c.args.text.now.polls c.args.text.now.settings c.args.rank.0 (sink g.O.Sink.written g.O.Sink.faults before) (sink g.O.Sink.written g.O.Sink.faults after)
     (outside g.E.Env.calls g.E.Env.faults env_before) (outside g.E.Env.calls g.E.Env.faults env_after) c.run_recorded-end.result c.is_whole.result)
     first.env.now c.args.env.now last.env.now _ first.out.now c.args.out.now last.out.now _
     c.new-recorder.ensures.env (search rules) c.new-recorder.ensures.out (search rules)
-    (runs_logged c.args.images c.args.words.now c.args.settings.now c.args.rank.0 (outside g.E.Env.calls g.E.Env.faults first.env.now) (outside g.E.Env.calls g.E.Env.faults last.env.now)
+    (runs_logged c.args.images c.args.words.now c.args.text.now.polls c.args.text.now.settings c.args.rank.0 (outside g.E.Env.calls g.E.Env.faults first.env.now) (outside g.E.Env.calls g.E.Env.faults last.env.now)
     (log_of g.O.Sink.written g.O.Sink.faults first) (log_of g.O.Sink.written g.O.Sink.faults last) c.run_recorded-end.result c.is_whole.result
     c.new-recorder.ensures.whole c.is_whole.ensures c.run_recorded-end.ensures.did.0 c.run_recorded-end.ensures.did.1)
