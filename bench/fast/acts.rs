@@ -76,7 +76,8 @@ impl World {
             Resource::Failed => seat.failed_at + self.cluster.loop_ms <= seat.tick,
             Resource::Free | Resource::Stopping => false,
         };
-        if may_stop && (seat.phase == Phase::Leaving || !seat.count.is_quorate()) {
+        let is_given_away = seat.view.is_some_and(|view| view.gives_away(me));
+        if may_stop && (seat.phase == Phase::Leaving || !seat.count.is_quorate() || is_given_away) {
             seat.resource = Resource::Stopping;
             into.put(b"stop,");
             return self.why(me);

@@ -54,6 +54,37 @@ pub struct View {
     pub members: u32,
 }
 
+/// The high byte of the number of a view under which nobody may start.
+const NOBODY: u64 = 254;
+
+impl View {
+    /// The member that may start: the one that is named, else the least.
+    #[inline(always)]
+    pub fn chosen(self) -> Option<u8> {
+        match self.id >> 56 {
+            0 => Some(least(self.members)),
+            NOBODY => None,
+            _ => Some(self.named().unwrap_or(least(self.members))),
+        }
+    }
+
+    /// Whether a node that holds has to give up under it: nobody may start, or another member is named.
+    #[inline(always)]
+    pub fn gives_away(self, me: u8) -> bool {
+        match self.id >> 56 {
+            0 => false,
+            NOBODY => true,
+            _ => self.named().is_some_and(|rank| rank != me),
+        }
+    }
+
+    /// The member that the high byte of the number names, counted from 1.
+    fn named(self) -> Option<u8> {
+        let name = self.id >> 56;
+        ranks(self.members).find(|rank| u64::from(*rank) + 1 == name)
+    }
+}
+
 #[derive(Clone, Copy, PartialEq)]
 pub enum Blocked {
     Down,
@@ -61,6 +92,7 @@ pub enum Blocked {
     NoView,
     NotQuorate,
     NotChosen,
+    NobodyChosen,
     HeldBy,
     Unheard,
     Unwritten,
@@ -321,8 +353,10 @@ impl Seat {
         if !self.count.is_quorate() {
             return Why::of(Blocked::NotQuorate);
         }
-        if least(view.members) != me {
-            return Why::by(Blocked::NotChosen, least(view.members));
+        match view.chosen() {
+            Some(rank) if rank == me => {}
+            Some(rank) => return Why::by(Blocked::NotChosen, rank),
+            None => return Why::of(Blocked::NobodyChosen),
         }
         let others = view.members & !bit(me);
         if others & self.told & !self.free != 0 {
@@ -356,7 +390,7 @@ impl Seat {
     #[inline(always)]
     pub fn fencing(&self, me: u8, all: u32) -> Option<DiskOp> {
         let view = self.view?;
-        if !self.count.is_quorate() || least(view.members) != me {
+        if !self.count.is_quorate() || view.chosen() != Some(me) {
             return None;
         }
         let outside = all & !view.members;

@@ -140,6 +140,7 @@ impl Cluster {
                 write_votes(into, count);
             }
             Blocked::NotChosen => self.write_of(into, b"not-chosen:", why.rank),
+            Blocked::NobodyChosen => into.put(b"not-chosen:0"),
             Blocked::HeldBy => self.write_of(into, b"held-by:", why.rank),
             Blocked::Unheard => self.write_of(into, b"unheard:", why.rank),
             Blocked::Unwritten => {

@@ -126,15 +126,29 @@ pub struct View {
 const NOBODY: u64 = 254;
 
 impl View {
-    /// The member that may start: the one that the high byte of the number names, counted from 1, else the least.
+    /// The member that may start: the one that is named, else the least.
     pub fn chosen(self) -> Option<Rank> {
-        let name = self.id >> 56;
-        if name == NOBODY {
+        if self.bars_all() {
             return None;
         }
-        let mut ranks = self.members.ranks();
-        let named = ranks.find(|rank| u64::from(rank.0) + 1 == name);
-        named.or(self.members.least())
+        self.named().or(self.members.least())
+    }
+
+    /// Whether a node that holds has to give up under it: nobody may start, or another member is named.
+    pub fn gives_away(self, me: Rank) -> bool {
+        self.bars_all() || self.named().is_some_and(|rank| rank != me)
+    }
+
+    /// The member that the high byte of the number names, counted from 1.
+    fn named(self) -> Option<Rank> {
+        let name = self.id >> 56;
+        self.members
+            .ranks()
+            .find(|rank| u64::from(rank.0) + 1 == name)
+    }
+
+    fn bars_all(self) -> bool {
+        self.id >> 56 == NOBODY
     }
 }
 

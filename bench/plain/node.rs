@@ -248,7 +248,9 @@ impl Node {
             Resource::StopFailed { tick: failed } => failed + self.timing.loop_ms <= tick,
             Resource::Free | Resource::Stopping => false,
         };
-        may && (self.phase == Phase::Leaving || !count.quorate)
+        let view = self.heard.view;
+        let is_given_away = view.is_some_and(|view| view.gives_away(self.me));
+        may && (self.phase == Phase::Leaving || !count.quorate || is_given_away)
     }
 
     /// Answers another member under the present view.

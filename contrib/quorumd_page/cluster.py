@@ -3,7 +3,7 @@ says nothing."""
 import json
 from dataclasses import dataclass, field
 
-GROUPS = ("none", "down", "looking", "starting", "runs", "unsure", "stopping", "failed", "stuck", "maintenance")
+GROUPS = ("none", "down", "looking", "starting", "runs", "unsure", "stopping", "failed", "stuck", "maintenance", "unattended")
 FINE_GROUPS = ("none", "runs", "unsure", "maintenance", "")
 QUIET_MAIL = ("empty", "test", "unread")
 STATES = ("healthy", "degraded", "no owner", "unknown")
@@ -56,11 +56,11 @@ def unknown(why):
 
 
 def group_word(shown):
-    """How the group of a node is, of an object that may have it: empty where that says nothing."""
-    if "group" not in shown:
-        return ""
-    number = shown["group"]
-    return GROUPS[number] if isinstance(number, int) and 0 <= number < len(GROUPS) else "unattended" if number is None else ""
+    """How the group of a node is, of an object that may have it: empty where that says nothing, null where nothing looks after it."""
+    number = shown.get("group", -1)
+    if number is None:
+        return "unattended"
+    return GROUPS[number] if isinstance(number, int) and 0 <= number < len(GROUPS) else ""
 
 
 def own_node(shown):

@@ -86,7 +86,7 @@ def nobody_else_is_answered():
     other.sendto(poll(1, 0, 2), node.arbiter)
     same("after all that", node.ask(1), NO)
     wait_for("one poll alone", lambda: arbiter.status()["polls"] == 1)
-    same("of an address of no node", wait_for("what was refused", lambda: arbiter.status()["refused"]), 1)
+    same("of an address of no node, and a reply", wait_for("what was refused", lambda: arbiter.status()["refused"]), 2)
 
 
 def under_a_key():

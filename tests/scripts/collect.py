@@ -112,7 +112,7 @@ def what_is_there(room):
     for name in ("settings/quorumd/node-9.env", "records/quorumd/failures", "records/quorumd/handovers"):
         demand(name not in files and name.encode() in files["README"].partition(b"What is not:")[2] and name in errors, "%s is left out, and that is said" % name)
     demand("settings/quorumd/key" not in files and not [name for name in files if name.endswith("/key")], "no file of a key")
-    same(os.listdir(room / "temporary"), [], "nothing is left")
+    same((os.listdir(room / "temporary"), list(room.glob("*.new"))), ([], []), "nothing is left")
     return environment
 
 
@@ -152,6 +152,10 @@ def nothing_half_done(room, environment):
     limited = subprocess.run(["bash", "-c", 'ulimit -f 1; exec "$0" "$1"', SCRIPT, room / "limited.tar.gz"], env=environment, stdout=subprocess.PIPE, stderr=subprocess.PIPE, check=False)
     same((limited.returncode, limited.stdout), (1, b""), "a file that may not grow")
     demand(b"File too large" in limited.stderr.splitlines()[-1], "it says why: %r" % limited.stderr)
+    (room / "other.tar.gz.new").touch()
+    status, said, errors = collected(environment, room / "other.tar.gz")
+    same((status, said, errors.splitlines()[-1]), (1, "", "quorumd-collect: %s: File exists" % (room / "other.tar.gz.new")), "a file of somebody else")
+    (room / "other.tar.gz.new").unlink()
     (room / "slow").touch()
     child = subprocess.Popen([SCRIPT, room / "slow.tar.gz"], env=environment, stdout=subprocess.PIPE, stderr=subprocess.PIPE, start_new_session=True)
     while not os.listdir(room / "temporary"):

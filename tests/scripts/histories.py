@@ -17,6 +17,8 @@ TOLD = [
     ("quorum-lost", "quorate=no votes=1 quorum=2 expected=3", "node 3 lost its quorum: 1/2"),
     ("peer-seen", "id=4294967295", "node 3 hears node 4294967295"),
     ("peer-lost", "id=1 silent=3016", "node 3 hears node 1 no more"),
+    ("device", "answer=no view=7", "the arbiter answered node 3 no in view 7"),
+    ("device-silent", "age=10013", "node 3 hears nothing of its arbiter, for 10013 ms"),
     ("fence-written", "of=1 ok=yes msgwait=10000", "node 3 fenced node 1: reset written, ok=yes, msgwait 10000 ms"),
     ("fence-written", "of=1 ok=no msgwait=10000", "node 3 fenced node 1: reset written, ok=no, msgwait 10000 ms"),
     ("licence", "of=2 by=clean-slot", "node 3 read node 2 as cleanly stopped"),

@@ -236,8 +236,8 @@ def judge():
     """What says whether a text is a status by the schema."""
     schemas = [json.loads((TOP / "docs" / name).read_text()) for name in ("node-status.schema.json", "status.schema.json")]
     if Draft202012Validator is None:
-        def plain(status):  # a small reader: each key is there and no other
-            return set(status) == set(schemas[0]["required"])
+        def plain(status):  # a small reader: each key is there that has to be, and none that is not known
+            return set(schemas[0]["required"]) <= set(status) <= set(schemas[0]["properties"])
         return plain
     registry = Registry().with_resource("status.schema.json", Resource.from_contents(schemas[1]))
     return Draft202012Validator(schemas[0], registry=registry).is_valid

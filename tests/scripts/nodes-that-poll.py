@@ -1,12 +1,13 @@
 """Two nodes and their arbiter: where the other node is dead, the arbiter's yes makes a node quorate; an arbiter that is killed is told as silent, and
 is heard again once it runs; so it is on one host, and between addresses under a key. What a stranger replies is not taken. Under another key nobody is
-answered. A node whose text has a name for the host starts, polls nobody and says so."""
+answered. The record of a node that polls is one, by `audit --polls`. A node whose text has a name for the host starts, polls nobody and says so."""
 import json
 import os
 import socket
+import subprocess
 
 from arbiters import SEATS, Arbiter
-from live import Cluster, free_ports, same, try_all, wait_for
+from live import QUORUMD, Cluster, free_ports, same, try_all, wait_for
 from polls import poll, reply
 
 TIMEOUT = 6000  # of the device, in milliseconds: a reply is taken within a fifth of it
@@ -125,6 +126,25 @@ def replies_of_a_stranger():
     same("each reply counts once", cluster.status(1)["arbiter"]["yes"] <= sent, True)
 
 
+def recorded():
+    """The record of a node that polls is judged with its limit, and is none of a node that polls nobody."""
+    class Recorded(Polled):
+        COMMAND = "node-logged"
+    cluster = Recorded("record")
+    cluster.arbiter("arbiter").opened()
+    node = cluster.node(1, turns=400)
+    same("its end", node.end()[0], 0)
+    same("it was answered", [event["answer"] for event in node.events("device")], ["no", "yes"])
+    log = node.answer.read_text().rpartition("turns ")[0]
+    head = (cluster.folder / "conf").read_text() + "----\n"
+
+    def audit(*more):
+        done = subprocess.run([QUORUMD, "audit", "--id", "1", "--turns", "400", *more], input=head + log, stdout=subprocess.PIPE, text=True, check=False)
+        return done.returncode, done.stdout
+    same("with its limit", audit("--polls", str(TIMEOUT // 5)), (0, "run whole turns 400\n"))
+    same("as one that polls nobody", audit()[0], 18)
+
+
 def another_key():
     cluster = Linked("keys")
     arbiter = Arbiter(str(cluster.folder / "arbiter"), (cluster.folder / "conf").read_text(), cluster.port, before=cluster.before("other"))
@@ -148,4 +168,4 @@ def a_name_for_the_host():
     same("it polls nobody", "arbiter" in cluster.status(1), False)
 
 
-try_all(on_one_host, under_a_key, replies_of_a_stranger, another_key, a_name_for_the_host)
+try_all(on_one_host, under_a_key, replies_of_a_stranger, recorded, another_key, a_name_for_the_host)

@@ -35,7 +35,7 @@ class TellingCluster(Cluster):
     def group(self, ident):
         return self.folder / ("group.%d" % ident)
 
-    def started(self, ident, *before, key="key"):
+    def teller(self, ident, *before, key="key"):
         guard = before or ("--links", str(self.folder / "conf"), "--key", str(self.folder / key))
         return self.node(ident, before=("--status", str(self.file(ident)), *guard))
 
@@ -48,25 +48,29 @@ class TellingCluster(Cluster):
         wait_for("by node %d it is %r" % (ident, wanted), lambda: self.first_line(ident) in wanted)
 
 
+def names(node, event):
+    """The names in the lines of an event."""
+    return {line["name"] for line in node.events(event)}
+
+
 def each_says_who_holds():
     cluster = TellingCluster("holds")
-    nodes = {ident: cluster.started(ident) for ident in IDS}
+    nodes = {ident: cluster.teller(ident) for ident in IDS}
     for ident in IDS:
         cluster.says(ident, (0, "quorumd healthy: db1 holds (no group)"))
-    seen = [event["name"] for event in nodes[1].events("peer-seen")]
-    same("names in the journal", sorted(seen), ["db2", "db3"])
-    same("its own name", [event["name"] for event in nodes[1].events("claimed")], ["db1"])
+    same("names in the journal", names(nodes[1], "peer-seen"), {"db2", "db3"})
+    same("its own name", names(nodes[1], "claimed"), {"db1"})
     shown = json.loads(cluster.file(1).read_text())
     same("names in the file", (shown["name"], [peer["name"] for peer in shown["peers"]]), ("db1", ["db2", "db3"]))
     nodes[1].kill()
     for ident in (2, 3):
         cluster.says(ident, (1, "quorumd degraded: db2 holds; db%d does not see db1" % ident))
-    same("names of who was fenced", [event["name"] for event in nodes[2].events("fence-written")], ["db1"])
+    same("names of who was fenced", names(nodes[2], "fence-written"), {"db1"})
 
 
 def another_key():
     cluster = TellingCluster("keys")
-    nodes = [cluster.started(1), cluster.started(2), cluster.started(3, key="other")]
+    nodes = [cluster.teller(1), cluster.teller(2), cluster.teller(3, key="other")]
 
     def is_named():
         status, line = cluster.first_line(1)
@@ -90,7 +94,7 @@ def a_group():
     cluster = TellingCluster("group", ids=(1, 2))
     guard = ("--links", str(cluster.folder / "conf"), "--key", str(cluster.folder / "key"))
     for ident in (1, 2):
-        cluster.started(ident, "--group", str(cluster.group(ident)), *guard)
+        cluster.teller(ident, "--group", str(cluster.group(ident)), *guard)
     for ident in (1, 2):
         cluster.says(ident, (1, "quorumd degraded: db1 holds; nothing looks after its group"))
     for word, wanted in (("runs", (0, "quorumd healthy: db1 holds")), ("maintenance", (0, "quorumd healthy: db1 holds (maintenance)")),
@@ -109,7 +113,7 @@ def a_group():
 def a_liar():
     """Node 2 is killed and a stranger has its port: by its word node 2 holds. What is shown goes by that, and no node does anything."""
     cluster = TellingCluster("liar")
-    nodes = {ident: cluster.started(ident, "--open", "--links", str(cluster.folder / "conf")) for ident in IDS}
+    nodes = {ident: cluster.teller(ident, "--open", "--links", str(cluster.folder / "conf")) for ident in IDS}
     cluster.says(3, (0, "quorumd healthy: db1 holds (no group)"))
     nodes[2].kill()
     nodes[2].process.wait()

@@ -135,6 +135,8 @@ def told():
     first, second, third = found.nodes
     same((first.title(), first.holds, first.quorate, first.group, first.held_ms, first.silent_ms), ("db1", True, True, "failed", 81204, 300), "what node 1 told")
     same((third.holds, third.is_live, third.phase, third.refused), (None, False, "not heard", 340), "what was told ten seconds ago is of no use")
+    same([clusters.group_word(shown) for shown in ({}, {"group": None}, {"group": 0}, {"group": 9}, {"group": 10}, {"group": 11})],
+         ["", "unattended", "none", "maintenance", "unattended", ""], "the words of a group")
     same((second.is_own, second.holds, [node.ident for node in found.holders()]), (True, False, [1]), "the own node")
     text = page.page_of("host", 1000000, 10, found, [], [])
     demand("db1</strong> holds the resource for 81 s" in text or "db1</strong> holds the resource for 1 min" in text, "for how long it holds")
@@ -192,11 +194,15 @@ def record():
 
 def in_place():
     """Nothing is written over but a page, and that whole or not at all."""
-    before = pathlib.Path("page.html").read_text()
     for words, line in (((), "no PAGE"), (("a", "b"), "b is one too many"), (("--every", "0", "page.html"), "--every 0"), (("--journal",), "its value is missing"), (("--key", "x"), "--key is not taken"),
                         (("bin",), "bin: a file in a folder"), (("absent/page.html",), "a file in a folder that is there"), (("n0.json",), "n0.json is there and is no page")):
         status, said = run(*words)
         demand(status == 2 and line in said and "Traceback" not in said, "%r: %d %r" % (words, status, said))
+    pathlib.Path("linked").write_text("of somebody else\n")
+    pathlib.Path("page.html.new").symlink_to("linked")
+    paged(three())
+    same((pathlib.Path("linked").read_text(), pathlib.Path("page.html.new").exists()), ("of somebody else\n", False), "no link is followed, and nothing is left")
+    before = pathlib.Path("page.html").read_text()
     pathlib.Path("page.html.new").mkdir()
     status, said = run("--status", "n0.json", "page.html")
     demand(status == 1 and said.splitlines()[-1] == "quorumd-page: page.html.new: Is a directory", "it cannot be written: %r" % said)

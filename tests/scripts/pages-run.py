@@ -244,7 +244,7 @@ SAID_AT_NIGHT = (
     "down", "holding", "no-view", "wait-for-all", "not-quorate:", "not-chosen:", "held-by:", "unheard:", "unfenced:N:unwritten", "unfenced:N:LEFT", "clear",
     "`off`", "`booting`", "`up`", "`leaving`", "`dying`", "`silent`", "`ended`",
     "mail reset", "crashdump", "mail exit", "mail damaged", "mail failed",
-    "healthy: ", "degraded: ", "no owner: ", "unknown: no node answers", "owner not known: ", "tells nothing", "hands over to", "its group is", "nothing looks after its group",
+    "healthy: ", "degraded: ", "no owner", "unknown: no node answers", "owner not known: ", "tells nothing", "hands over to", "its group is", "nothing looks after its group",
     "does not see", "refused: another key or text", "not quorate", "is leaving", "is dying", "ended: ", "silent for", "is of another boot of this host", "TWO HOLDERS: ",
 )
 

@@ -1,6 +1,7 @@
 """Who may start under a view, by its number: each row of tests/rows/chosen.tsv as a schedule in which every member boots and is told the
-view, once by quorumd and once by the plain program of bench/plain, where rustc is there; and by what reads records of nodes. A row says how
-many nodes are configured, the number of the view, its members as ranks, and the rank that may start, `-` for none."""
+view, once by quorumd and once by the plain program of bench/plain, where rustc is there; and by what reads records of nodes. And whether a
+member that holds gives up under it. A row says how many nodes are configured, the number of the view, its members as ranks, and the rank that may
+start, `-` for none. The same of each view that a leader makes in the rows `candidate` of crates/qn_tests, where all nodes are its members."""
 import json
 import os
 import pathlib
@@ -14,6 +15,7 @@ TOP = pathlib.Path(os.environ["TOP"])
 QUORUMD = os.environ["QUORUMD"]
 TIMES = "timing 5000 10000 1000 2000 1000"
 BOOT = 4  # what a boot asks its disk for: the header, the own slot, the claim and the clear
+NOBODY = 254
 
 
 def rows():
@@ -23,8 +25,24 @@ def rows():
             yield int(count), int(number), [int(rank) + 1 for rank in members.split(",")], 0 if chosen == "-" else int(chosen) + 1
 
 
+def led():
+    """The views of leaders, with whom each names: a rank, `none`, or `nobody`."""
+    for line in (TOP / "crates" / "qn_tests" / "stdin").read_text().splitlines():
+        if line.startswith("candidate\t"):
+            words = line.split("\t")
+            members = [int(rank) + 1 for rank in words[1].split(",")]
+            yield max(members), int(words[14]), members, chosen_by(words[12], members)
+
+
+def chosen_by(name, members):
+    """The id of who may start where a leader names that; 0 for nobody."""
+    if name == "none":
+        return members[0]
+    return 0 if name == "nobody" else int(name) + 1
+
+
 def settings(count, members):
-    """So many nodes, of which the members alone have votes, so that they are quorate."""
+    """So many nodes, of which these alone have votes, so that who sees them is quorate."""
     nodes = ("    node {\n        nodeid: %d\n        quorum_votes: %d\n    }\n" % (ident, ident in members) for ident in range(1, count + 1))
     return "nodelist {\n%s}\n" % "".join(nodes)
 
@@ -37,6 +55,31 @@ def schedule(count, number, members):
     told = ",".join(map(str, members))
     lines += ["view %d %d %s" % (ident, number, told) for ident in members]
     return "%s----\n%s\n%s\n" % (settings(count, members), TIMES, "\n".join(lines))
+
+
+def held(count, number, members, holder):
+    """A member boots, alone has votes, reads that the others are clean, and holds; then it is told the view."""
+    lines = ["boot %d 0" % holder] + ["land %d" % holder, "done %d" % holder] * BOOT + ["view %d 0 %d" % (holder, holder)]
+    lines += ["land %d" % holder, "done %d" % holder] * count
+    lines += ["view %d %d %s" % (holder, number, ",".join(map(str, members)))]
+    return "%s----\n%s\n%s\n" % (settings(count, [holder]), TIMES, "\n".join(lines))
+
+
+def holding(row):
+    """The schedules in which a member holds, for some of the members, each with whether it gives up: the view names another one, or nobody may start."""
+    count, number, members, _ = row
+    name = number >> 56
+    for holder in sorted({members[0], members[-1], name if name in members else members[0]}):
+        yield held(count, number, members, holder), name == NOBODY or name in members and name != holder
+
+
+def judge_held(row):
+    """Whether the holder stops, by quorumd."""
+    for text, gives_up in holding(row):
+        before, last = answer(text, QUORUMD, "replay").splitlines()[-3:-1]
+        demand("why=holding" in before, "nobody holds before view %d of %s: %s" % (row[1], row[2], before))
+        stops = "stop" in last.split()[3].split(",")
+        demand(stops == gives_up, "view %d of %s: %s" % (row[1], row[2], last))
 
 
 def answer(text, *words):
@@ -68,13 +111,15 @@ def judge_told(row):
 
 
 def main():
-    table = list(rows())
-    demand(len(table) == 100, "%d rows" % len(table))
+    table, leaders = list(rows()), list(led())
+    demand((len(table), len(leaders)) == (100, 200), "%d rows, and %d of leaders" % (len(table), len(leaders)))
+    table += leaders
     configured = [row for row in table if max(row[2]) <= row[0]]
     for row in table:
         if row in configured:
             judge(row)
             judge_told(row)
+            judge_held(row)
         else:
             said = answer(schedule(*row[:3]), QUORUMD, "replay").splitlines()[-1]
             demand(said.endswith("UnknownNode"), "a view with a member that is not configured: %s" % said)
@@ -83,8 +128,8 @@ def main():
         return
     subprocess.run(["rustc", "--edition", "2021", "-O", "-o", "plain", str(TOP / "bench" / "plain" / "main.rs")], check=True)
     for row in configured:
-        text = schedule(*row[:3])
-        demand(answer(text, "./plain", "replay") == answer(text, QUORUMD, "replay"), "the plain program says otherwise of view %d" % row[1])
+        for text in (schedule(*row[:3]), *(text for text, _ in holding(row))):
+            demand(answer(text, "./plain", "replay") == answer(text, QUORUMD, "replay"), "the plain program says otherwise of view %d" % row[1])
 
 
 main()

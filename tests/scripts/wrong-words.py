@@ -24,6 +24,7 @@ ROWS = {
     "bench/campaign": "2 2 help 2 2 2 2 2",
     "bench/soak-nodes": "2 2 help 2 2 2 2 2",
     "bench/quiet": "2 2 help 2 2 2 2 2",
+    "bench/names": "2 2 help 2 2 2 2 2",
     "bench/budget": "- 2 help 2 2 2 2 2",
     "bench/gate": "- - help - - - - -",
     "completions/make": "- 2 help 2 0 2 2 2",

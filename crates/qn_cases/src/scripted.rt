@@ -47,6 +47,13 @@ fn answer_as(outside: &mut Outside, line: &str) -> Option<()> {
     match call.asked {
         Asked::Now => outside.ticks.push(call.given.tick).ok(),
         Asked::Receive => outside.heard.push(Heard { bytes, length }).ok(),
-        _ => Some(()),
+        Asked::Read { .. }
+        | Asked::Write { .. }
+        | Asked::Feed
+        | Asked::Start
+        | Asked::Stop
+        | Asked::Send { .. }
+        | Asked::Disarm
+        | Asked::Halt { .. } => Some(()),
     }
 }

@@ -122,6 +122,8 @@ fn sentences_of(line: &JournalLine<'_>) -> &'static [&'static str] {
             "node {node} hears node {id} ({name}) no more",
             "node {node} hears node {id} no more",
         ],
+        "device" => &["the arbiter answered node {node} {answer} in view {view}"],
+        "device-silent" => &["node {node} hears nothing of its arbiter, for {age} ms"],
         "fence-written" => &[
             "node {node} fenced node {of} ({name}): reset written, ok={ok}, msgwait {msgwait} ms",
             "node {node} fenced node {of}: reset written, ok={ok}, msgwait {msgwait} ms",

@@ -227,10 +227,10 @@ unfolding joint_steps packet_of
 takes_view_may =
     record { on = refl; asked = refl; waits = refl; answer = tt; spells = refl } ▸
     record { on = refl; asked = refl; waits = refl; answer = refl; spells = refl } ▸
-    record { on = refl; asked = refl; waits = refl; answer = λ c. (12, leb-true _ _ refl, refl); spells = refl } ▸
+    record { on = refl; asked = refl; waits = refl; answer = λ c. (8, leb-true _ _ refl, refl); spells = refl } ▸
     record { on = refl; asked = refl; waits = refl; answer = tt; spells = refl } ▸
     record { on = refl; asked = refl; waits = refl; answer = refl; spells = refl } ▸
-    record { on = refl; asked = refl; waits = refl; answer = λ c. (4, leb-true _ _ refl, refl); spells = refl } ▸
+    record { on = refl; asked = refl; waits = refl; answer = λ c. (2, leb-true _ _ refl, refl); spells = refl } ▸
     record { on = refl; asked = refl; waits = refl; answer = tt; spells = refl } ▸
     record { on = refl; asked = refl; waits = refl; answer = refl; spells = refl } ▸
     record { on = refl; asked = refl; waits = refl; answer = tt; spells = refl } ▸

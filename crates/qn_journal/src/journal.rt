@@ -9,7 +9,7 @@ use crate::mail::{MailNews, MailState, Mailbox};
 use crate::node_names::NodeNames;
 use crate::peers::Peers;
 use crate::seldom::Seldom;
-use crate::status_text::{Counts, Shown, status_text};
+use crate::status_text::{Counts, NAMES, Shown, status_text};
 use crate::telling::Telling;
 use qn_base::Rank;
 use qn_event::{EventLine, Moment};
@@ -33,6 +33,11 @@ use std::time::Clock;
 
 /// How many sectors an image of three has.
 const IMAGE: u32 = 1024;
+
+/// The kinds of what the node's own host hands it: that it is to leave, and what this host says of it.
+const LEAVE: u8 = 12;
+
+const WORD: u8 = 13;
 
 /// The most bytes of a name.
 const MOST_NAME: usize = 63;
@@ -179,7 +184,7 @@ impl<'a, R: Files<File = File> + Clock + Eprint> Journal<'a, R> {
 
     /// Tells of the arbiter that the node polls: its answer, and that it is silent.
     fn tell_device(&mut self, tick: u64, run: &NodeRun) {
-        let view = run.standing().view.map_or(0, |(_, view)| view.id);
+        let view = run.standing().view.map_or(0, |(_, view)| view.id % NAMES);
         if let Some(agrees) = self.device.take(run.entry(), tick, view) {
             let line = device_answered(self.now(), agrees, view);
             self.say(&line);
@@ -206,7 +211,7 @@ impl<'a, R: Files<File = File> + Clock + Eprint> Journal<'a, R> {
             Some(
                 Packet::Ask(_) | Packet::Tell(_) | Packet::Announce { .. } | Packet::Vote { .. },
             ) => {}
-            None if get_reply(bytes).is_some() => {}
+            None if get_reply(bytes).is_some() || is_of_host(bytes) => {}
             None => self.refused.count(),
         }
     }
@@ -324,6 +329,11 @@ impl<'a, R: Files<File = File> + Clock + Eprint> Journal<'a, R> {
             }
         }
     }
+}
+
+/// Whether these bytes are what the node's own host asks of it or says of it, of which no packet of a network is.
+fn is_of_host(bytes: &[u8]) -> bool {
+    matches!(bytes, [b'Q', b'N', LEAVE | WORD, ..])
 }
 
 /// Adds the name of a node, where it has one, as the last word of a line.

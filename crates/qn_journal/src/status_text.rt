@@ -14,6 +14,9 @@ use qn_model::{Nodes, Phase};
 use qn_names::{phase_name, write_why};
 use qn_shown::{Group, Heard};
 
+/// The high byte of a view's number names who may start: a number below this one names nobody in particular.
+pub(crate) const NAMES: u64 = 1 << 56;
+
 /// The seat of the arbiter, one above those of the ranks.
 const ARBITER: usize = 32;
 
@@ -244,9 +247,12 @@ fn add_time(text: &mut Text, time: u64) {
     text.number(time % 10);
 }
 
+/// A view: which node its number names as the one that may start, the rest of its number, and its members.
 fn add_view(text: &mut Text, nodes: &Nodes, view: View) {
-    text.add(b"{\"id\":");
-    text.number(view.id);
+    text.add(b"{\"candidate\":");
+    text.maybe(candidate_of(nodes, view));
+    text.add(b",\"id\":");
+    text.number(view.id % NAMES);
     text.add(b",\"members\":[");
     let mut is_first = true;
     for (rank, node) in nodes.as_slice().iter().enumerate() {
@@ -259,6 +265,16 @@ fn add_view(text: &mut Text, nodes: &Nodes, view: View) {
         }
     }
     text.add(b"]}");
+}
+
+/// The id of the node that a view names as the one that may start, 0 where none may; None where it names none.
+fn candidate_of(nodes: &Nodes, view: View) -> Option<u64> {
+    if view.is_barred() {
+        return Some(0);
+    }
+    let count = u8::try_from(nodes.len()).ok()?;
+    let rank = view.named(count)?;
+    Some(u64::from(nodes.id_of(rank).0))
 }
 
 /// Whether the node of that place is one of the members.

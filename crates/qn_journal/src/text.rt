@@ -4,9 +4,9 @@ use qn_base::write_decimal;
 use std::fmt::Write;
 use std::net::SocketAddr;
 
-/// The most bytes of a status: that of 32 nodes whose ids have ten digits and whose names have 63 bytes, and of which each told something, is
-/// shorter.
-const TEXT: usize = 12_288;
+/// The most bytes of a status: that of 32 nodes whose ids have ten digits and whose names have 63 bytes, each behind a backslash, and of which each told
+/// something, is shorter.
+const TEXT: usize = 14_336;
 
 /// The most bytes of an address with its port, of IPv6 with a number of its interface.
 const ADDRESS: usize = 64;

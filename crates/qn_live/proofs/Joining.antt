@@ -1,5 +1,5 @@
 -- How a running node goes from one call to the next: what is left of its plan, moment by moment.
-use Rattle.std.proofs.Common.{◌≡◌, ◌≤◌, ◌<◌, ℕ, suc, Bool, true, false, not, ◌+◌, ◌-◌, ◌==◌, List, [], ◌∷◌, length, drop, filter, Option, None, Some, option_map, if◌then◌else◌, refl, sym, ap, ◌∙◌, arith}
+use Rattle.std.proofs.Common.{◌≡◌, ◌≤◌, ◌<◌, ℕ, suc, Bool, true, false, not, ◌+◌, ◌-◌, ◌==◌, List, [], ◌∷◌, length, drop, filter, Option, None, Some, option_map, refl, sym, ap, ◌∙◌, arith}
 use Rattle.std.specs.Prelude.{slice_get, nat_lt}
 use Rattle.std.specs.List.{range_with_len}
 use Rattle.std.specs.Option.{option_map_or}

@@ -1,5 +1,5 @@
 -- What a running node that waits for a call stands for: what is left of its run. This project's profile.
-use Rattle.std.specs.Prelude.{◌≡◌, ◌<◌, ℕ, Bool, false, true, ◌+◌, ◌==◌, List, All, Option, None, Some, length, drop, option_map, option_and_then, slice_get, [], if◌then◌else◌}
+use Rattle.std.specs.Prelude.{◌≡◌, ◌<◌, ℕ, Bool, false, true, ◌+◌, ◌==◌, List, All, Option, None, Some, length, drop, option_map, option_and_then, slice_get}
 use Rattle.qn_base.specs.Plans.{Plan, Ends, ◌>>=◌}
 use Rattle.qn_model.specs.declared.configuration.Settings.{Settings}
 use Rattle.qn_model.specs.declared.entries.Entry.{Entry}

@@ -6,10 +6,12 @@
 //! are what the clock told (`law_handed_history`), and the calls without
 //! receive, now, Hello, Announce and polls are the outputs of that history, in order (`law_outputs`). Where no call fails and no
 //! tick falls, no run ends because of the clock or of a failed step of the boot (`law_sound_end`), and a failed call halts
-//! a boot only by the disk operation that it was made for (`law_boot_halted`). Where a Hello is due it says what the last look found and
-//! what the node says of itself, and the announcement follows it (`law_hellos`); a turn takes no packet where the last look of the view maker is a loop ago (`law_late_look`). `NodeRun` is the same run as a machine, which
-//! names its next call and takes its answer; an entry is taken in at each look at the clock that did not go back (`answer`), and
-//! `standing` is what the log says. `Notices` are told of each call, and change nothing. No call takes memory from an allocator.
+//! a boot only by the disk operation that it was made for (`law_boot_halted`). Where a Hello is due it says what the last look found
+//! and what the node says of itself, and the announcement follows it (`law_hellos`); a turn takes no packet where the last look of the
+//! view maker is a loop ago (`law_late_look`). What the host of a node says of it is received as a packet is, and kept (`specs/Words`).
+//! `NodeRun` is the same run as a machine, which names its next call and takes its answer; an entry is taken in at each look at the
+//! clock that did not go back (`answer`), and `standing` is what the log says. `Notices` are told of each call, and change nothing. No
+//! call takes memory from an allocator.
 //!
 //! The same on three images, of which any one may be lost: the calls that `run_node3` makes are those of `triple_plan` of
 //! `specs/TripleRuns`, and its end is the one of that plan, for every outside. The plan is that of a node on one image, in which a call on

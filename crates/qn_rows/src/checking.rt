@@ -11,7 +11,7 @@ use super::row::{check_entry, row_of};
 use super::seals::Seals;
 use super::texts::check_text;
 use super::ties::check_tie;
-use super::totals::Totals;
+use super::totals::{Counted, Totals};
 use qn_fence::Fence;
 use qn_member::Member;
 use qn_model::Settings;
@@ -20,7 +20,10 @@ use qn_words::{read_rank, read_settings, settings_words};
 use std::alloc::Global;
 use std::io;
 
-/// What is said of a line that is no row.
+/// What is said of a row: what differs, nothing where all is right; None where it is no row.
+type Said = Option<Option<&'static str>>;
+
+/// What differs at a line that is no row.
 const NO_ROW: Option<&str> = Some("how a row is written");
 
 /// What was read so far.
@@ -43,7 +46,7 @@ pub fn check_rows(rt: &(impl Print + AllocGlobal), lines: &str) -> io::Result<()
     let mut reader = Reader::new(rt.alloc());
     for line in lines.lines() {
         if let Some(other) = reader.difference(rt.alloc(), line) {
-            reader.totals.add("other");
+            reader.totals.add(Counted::Difference);
             println!(rt; "{other} differs: {line}")?;
         }
     }
@@ -73,36 +76,42 @@ impl Reader {
         let Some((kind, row)) = line.split_once('\t') else {
             return self.begin(alloc, line).map_or(NO_ROW, |()| None);
         };
-        let is_new = kind == "maker" && row.starts_with("new ");
-        self.totals.add(if is_new { "new" } else { kind });
-        let (right, what) = match kind {
-            "text" => (check_text(alloc, row), "what a settings text gives"),
-            "entry" => (check_entry(alloc, row), "what a line is read as"),
-            "refused" => (
-                Some(read_settings(row).is_none()),
-                "that settings are refused",
+        let Some((counted, answer)) = self.check(alloc, kind, row) else {
+            return self.row_difference(alloc, line);
+        };
+        self.totals.add(counted);
+        answer.unwrap_or(NO_ROW)
+    }
+
+    /// How a row of that kind is counted, and what is said of it; None where no kind is called so.
+    fn check(&mut self, alloc: Global, kind: &str, row: &str) -> Option<(Counted, Said)> {
+        let (counted, right, what) = match kind {
+            "count" => return Some((Counted::Count, check_count(alloc, row))),
+            "packet" => (
+                Counted::Packet,
+                self.changes.check(alloc, row),
+                "the packet or its spelling",
             ),
-            "tie" => (check_tie(&mut self.tie, row), "the tie breaker"),
-            "members" => (check_members(row), "the votes of some members"),
-            "line" => (check_line(alloc, row), "the line of an event"),
-            "fence" => (check_fence(&mut self.fence, row), "a licence"),
-            "candidate" => (check_candidate(row), "whom a leader names"),
-            "decision" => (check_decision(alloc, row), "what a view maker decides"),
-            "packet" => (self.changes.check(alloc, row), "the packet or its spelling"),
+            "poll" => (Counted::Poll, self.polls.check(alloc, row), "the arbiter"),
+            "seal" => (Counted::Seal, self.seals.check(alloc, row), "the seal"),
             "maker" => (
+                maker_call(row),
                 check_maker(&mut self.maker, row),
                 "the answer of a view maker",
             ),
-            "poll" => (self.polls.check(alloc, row), "the arbiter"),
-            "seal" => (self.seals.check(alloc, row), "the seal"),
-            "count" => return check_count(alloc, row).unwrap_or(NO_ROW),
-            _ => return self.row_difference(alloc, line),
+            "tie" => (
+                Counted::Tie,
+                check_tie(&mut self.tie, row),
+                "the tie breaker",
+            ),
+            "fence" => (
+                Counted::Call,
+                check_fence(&mut self.fence, row),
+                "a licence",
+            ),
+            _ => return check_alone(alloc, kind, row),
         };
-        match right {
-            Some(true) => None,
-            Some(false) => Some(what),
-            None => NO_ROW,
-        }
+        Some((counted, said(right, what)))
     }
 
     /// Takes a line before the rows of a history: its settings, or the rank of its node.
@@ -113,7 +122,7 @@ impl Reader {
         }
         let me = read_rank(line.strip_prefix("me ")?)?;
         self.history = Some(History::new(alloc, self.settings.take()?, me)?);
-        self.totals.add("me");
+        self.totals.add(Counted::History);
         Some(())
     }
 
@@ -122,8 +131,71 @@ impl Reader {
         let (Some(row), Some(history)) = (row_of(line), &mut self.history) else {
             return NO_ROW;
         };
-        self.totals
-            .add(if row.what.is_some() { "entered" } else { "at" });
+        self.totals.add(match row.what {
+            Some(_) => Counted::Entry,
+            None => Counted::Look,
+        });
         history.difference(alloc, row)
+    }
+}
+
+/// The same of a row that goes by itself.
+fn check_alone(alloc: Global, kind: &str, row: &str) -> Option<(Counted, Said)> {
+    let (counted, right, what) = match kind {
+        "text" => (
+            Counted::Text,
+            check_text(alloc, row),
+            "what a settings text gives",
+        ),
+        "entry" => (
+            Counted::Line,
+            check_entry(alloc, row),
+            "what a line is read as",
+        ),
+        "refused" => (
+            Counted::Line,
+            Some(read_settings(row).is_none()),
+            "that settings are refused",
+        ),
+        "members" => (
+            Counted::Call,
+            check_members(row),
+            "the votes of some members",
+        ),
+        "line" => (
+            Counted::Call,
+            check_line(alloc, row),
+            "the line of an event",
+        ),
+        "candidate" => (
+            Counted::Candidate,
+            check_candidate(row),
+            "whom a leader names",
+        ),
+        "decision" => (
+            Counted::Decision,
+            check_decision(alloc, row),
+            "what a view maker decides",
+        ),
+        _ => return None,
+    };
+    Some((counted, said(right, what)))
+}
+
+/// How a call of a view maker is counted.
+fn maker_call(row: &str) -> Counted {
+    if row.starts_with("new ") {
+        Counted::Maker
+    } else {
+        Counted::MakerCall
+    }
+}
+
+/// What is said of a row that is right or not.
+fn said(right: Option<bool>, what: &'static str) -> Said {
+    match right {
+        Some(true) => Some(None),
+        Some(false) => Some(Some(what)),
+        None => None,
     }
 }

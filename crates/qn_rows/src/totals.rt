@@ -2,6 +2,38 @@
 use super::packets::Changes;
 use std::io;
 
+/// What is counted.
+#[derive(Clone, Copy)]
+pub enum Counted {
+    /// A settings text.
+    Text,
+    /// A line of a history, which is read or refused.
+    Line,
+    /// A count of votes.
+    Count,
+    /// A call of a tie breaker.
+    Tie,
+    /// A call beside which the program makes others.
+    Call,
+    Candidate,
+    Decision,
+    Packet,
+    /// A view maker that begins.
+    Maker,
+    /// Another call of it.
+    MakerCall,
+    Poll,
+    Seal,
+    /// A history that begins.
+    History,
+    /// An entry of a history.
+    Entry,
+    /// A look at a later tick of it.
+    Look,
+    /// A row from which a form differs.
+    Difference,
+}
+
 /// How many rows there were of each kind, and from how many of them a form differs.
 #[derive(Clone, Copy)]
 pub struct Totals {
@@ -44,26 +76,25 @@ impl Totals {
         differ: 0,
     };
 
-    /// Adds a row: of that first word, a maker that is `new`, an `entered` entry or a look `at` a tick of a history, or one that is `other` than it should be.
-    pub fn add(&mut self, kind: &str) {
-        let total = match kind {
-            "text" => &mut self.texts,
-            "entry" | "refused" => &mut self.lines,
-            "count" => &mut self.counts,
-            "tie" => &mut self.ties,
-            "members" | "line" | "fence" => &mut self.calls,
-            "candidate" => &mut self.candidates,
-            "decision" => &mut self.decisions,
-            "packet" => &mut self.packets,
-            "new" => &mut self.makers,
-            "maker" => &mut self.calls_of_makers,
-            "poll" => &mut self.polls,
-            "seal" => &mut self.seals,
-            "me" => &mut self.histories,
-            "entered" => &mut self.entries,
-            "at" => &mut self.looks,
-            "other" => &mut self.differ,
-            _ => return,
+    /// Adds one that is counted so.
+    pub fn add(&mut self, counted: Counted) {
+        let total = match counted {
+            Counted::Text => &mut self.texts,
+            Counted::Line => &mut self.lines,
+            Counted::Count => &mut self.counts,
+            Counted::Tie => &mut self.ties,
+            Counted::Call => &mut self.calls,
+            Counted::Candidate => &mut self.candidates,
+            Counted::Decision => &mut self.decisions,
+            Counted::Packet => &mut self.packets,
+            Counted::Maker => &mut self.makers,
+            Counted::MakerCall => &mut self.calls_of_makers,
+            Counted::Poll => &mut self.polls,
+            Counted::Seal => &mut self.seals,
+            Counted::History => &mut self.histories,
+            Counted::Entry => &mut self.entries,
+            Counted::Look => &mut self.looks,
+            Counted::Difference => &mut self.differ,
         };
         *total = total.saturating_add(1);
     }

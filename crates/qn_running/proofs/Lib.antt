@@ -3,3 +3,4 @@ mod NodeCauses
 mod NodeEnds
 mod NodeLogging
 mod NodeRuns
+mod PolledTexts

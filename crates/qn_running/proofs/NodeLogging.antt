@@ -102,7 +102,7 @@ logs_writes calls before after whole logs = of_logs before.whole after.whole who
 -- what an outside and an output show after a recorded run
 pub runs_logged : (images : NodeImages) (words : NodeWords) (polls : Option ℕ) (settings : Settings) (rank : ℕ) (env_before env_after : Outside) (before after : LogSink) (end : LiveEnd) (whole : Bool)
     → before.whole ≡ true → whole ≡ after.whole → (log : List Line)
-    → DidLogged (plan_on images settings rank words.clean words.leave words.polls words.turns) (record { end = end; log = log })
+    → DidLogged (plan_on images settings rank words.clean words.leave polls words.turns) (record { end = end; log = log })
     (recorded env_before.faults env_before.calls before) (recorded env_after.faults env_after.calls after)
     → RunsLogged images words polls settings rank (output_of before) (output_of after) env_before env_after end whole
 runs_logged images words polls settings rank env_before env_after before after end whole begun is log did = record {

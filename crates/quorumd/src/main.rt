@@ -58,7 +58,10 @@ fn run(rt: &HostRuntime, said: Outside<'_>, words: &[String]) -> u8 {
     let mut input = SameText::new(input, lines.over(rt), text.map(|named| &named.text));
     let mut out = StdSink::new(io::writer(rt), lines.over(rt));
     let mut env = RealEnv::new(SteadyHost::new(rt), said.edge, &lines);
-    let names = NodeNames::new(text.map_or(&[], |named| named.names.as_slice()));
+    let names = match text {
+        Some(named) => NodeNames::new(named.names.as_slice()),
+        None => NodeNames::new(&[]),
+    };
     let mut journal = journal_of(&host, process::id(rt.process()), &lines, said.files, names);
     let status = top(
         rt.alloc(),

@@ -1,6 +1,6 @@
 -- `node-logged` and `node3-logged`: a running node whose calls are recorded; this project's profile. A call is recorded as one line with its
 -- answer, before the next call; the opening is not recorded.
-use Rattle.std.specs.Prelude.{◌≡◌, ◌≢◌, ◌≤◌, ◌⊎◌, ℕ, Bool, true, false, List, [], ◌∷◌}
+use Rattle.std.specs.Prelude.{◌≡◌, ◌≢◌, ◌≤◌, ◌⊎◌, ℕ, Bool, true, false, List, [], ◌∷◌, Option}
 use Rattle.std.specs.Io.KnownBytes.{append_known}
 use Rattle.qn_audit.specs.Logs.{log_text}
 use Rattle.qn_base.specs.declared.calls.Call.{Call}
