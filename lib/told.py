@@ -277,14 +277,19 @@ class Told:
             return "held-by:%d" % held[0] if held else "unheard:%d" % unheard[0]
         return self.unfenced(members)
 
-    def chosen(self):
-        """The id of the node that its view lets start: the member that the high byte of its number names, counted from 1, else the least;
-        0 where none may."""
-        name = name_of(self.view.number)
+    def candidate(self, view):
+        """The id of the node that a view names as the one that may start: the member that the high byte of its number names, counted from 1.
+        0 where none may, and None where it names none."""
+        name = name_of(view.number)
         if name == NOBODY:
             return 0
         named = self.ids[name - 1] if 0 < name <= len(self.ids) else None
-        return named if named in self.view.members else self.view.members[0]
+        return named if named in view.members else None
+
+    def chosen(self):
+        """The id of the node that its view lets start: whom it names, else its least member; 0 where none may."""
+        candidate = self.candidate(self.view)
+        return self.view.members[0] if candidate is None else candidate
 
     def unfenced(self, members):
         for rank, ident in enumerate(self.ids):
@@ -353,7 +358,9 @@ class Told:
             self.say(NOTICE, "phase", "from=" + before.phase, "to=" + after.phase)
         count = ["quorate=" + ("yes" if after.quorate else "no"), "votes=%d" % after.votes, "quorum=%d" % (len(self.ids) // 2 + 1), "expected=%d" % len(self.ids)]
         if kind == "view":
-            self.say(NOTICE, "view", "view=%d" % given.number, "members=" + ",".join(map(str, given.members)), *count)
+            candidate = self.candidate(given)
+            named = [] if candidate is None else ["candidate=%d" % candidate]
+            self.say(NOTICE, "view", "view=%d" % (given.number % 2 ** 56), "members=" + ",".join(map(str, given.members)), *named, *count)
         if before.quorate != after.quorate:
             self.say(*((NOTICE, "quorum-won") if after.quorate else (WARNING, "quorum-lost")), *count)
         self.tell_outputs(calls)

@@ -131,12 +131,12 @@ def waits_for_all(cluster):
 
 
 def held_by_another():
-    """The chosen node of a view in which another one holds."""
+    """A node of least id that joins a view in which another one holds: the view names that one, which goes on."""
     cluster = Cluster("held")
     nodes = [started(cluster, ident) for ident in (2, 3)]
     blocked_by(cluster, 2, "holding")
     nodes.append(started(cluster, 1))
-    blocked_by(cluster, 1, "held-by:2")
+    blocked_by(cluster, 1, "not-chosen:2")
     lines = comes_to(cluster, 0, "quorumd healthy: 2 holds (no group)")
     same("all three", [row(lines, ident)[2] for ident in IDS], ["no", "yes", "no"])
     comes_to(cluster, 0, "quorumd healthy: 2 holds (no group)", ids=(1,))

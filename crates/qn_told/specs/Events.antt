@@ -1,5 +1,8 @@
 -- What a line of the journal says of an event: its name, its level and its words (this project's profile, LIVE.md "The journal").
-use Rattle.std.specs.Prelude.{ℕ, List, [], ◌∷◌, ◌++◌, codes, decimal, slice_index, if◌then◌else◌}
+use Rattle.std.specs.Prelude.{ℕ, Bool, List, [], ◌∷◌, ◌++◌, ◌-◌, ◌/◌, ◌%◌, ◌^◌, ◌&&◌, nat_le, nat_lt, codes, decimal, length, slice_index, Option, None, Some, if◌then◌else◌}
+use Rattle.qn_base.specs.declared.ids.View.{View}
+use Rattle.qn_base.specs.Candidates.{is_barred}
+use Rattle.qn_base.specs.Members.{is_member}
 use Rattle.qn_event.specs.EventTexts.{EventText}
 use Rattle.qn_event.specs.declared.level.Level.{Level}
 use Rattle.qn_event.specs.declared.level.Level.TheVariants.{Error, Warning, Notice, Information}
@@ -69,6 +72,26 @@ answer_words answer =
     ∷ number (codes "expected") answer.expected
     ∷ []
 
+-- what the high byte of a view's number is
+abbrev pub name_in : View → ℕ
+name_in view = view.id / 2 ^ 56
+
+-- it names a member of these nodes: it is one more than the rank
+abbrev pub names_member : List NodeEntry → View → Bool
+names_member nodes view =
+    nat_lt 0 (name_in view) && nat_le (name_in view) (length nodes) && is_member view.members (name_in view - 1)
+
+-- the id of the node that a view names as the one that may start, 0 where none may; None where it names none
+abbrev pub candidate_of : List NodeEntry → View → Option ℕ
+candidate_of nodes view =
+    if is_barred view then Some 0
+    else (if names_member nodes view then Some (slice_index (ids nodes) (name_in view - 1)) else None)
+
+-- whom a view names, where it names anybody, and the count of votes
+abbrev pub named_answer_words : Option ℕ → Answer → List Word
+named_answer_words None answer = answer_words answer
+named_answer_words (Some id) answer = number (codes "candidate") id ∷ answer_words answer
+
 -- why a node halts: a deadly message by its name, or the cause of a boot that failed by its number
 abbrev pub cause_text : HaltKind → List ℕ
 cause_text (Deadly message) = message_name message
@@ -80,9 +103,9 @@ words_of nodes msgwait (event.Phase from to) =
     text (codes "from") (phase_name from) ∷ text (codes "to") (phase_name to) ∷ []
 words_of nodes msgwait (event.Claimed incarnation) = number (codes "incarnation") incarnation ∷ []
 words_of nodes msgwait (event.View view answer) =
-    number (codes "view") view.id
+    number (codes "view") (view.id % 2 ^ 56)
     ∷ record { key = codes "members"; value = member_word (ids nodes) view.members; most = 250 }
-    ∷ answer_words answer
+    ∷ named_answer_words (candidate_of nodes view) answer
 words_of nodes msgwait event.Released = []
 words_of nodes msgwait (event.QuorumWon answer) = answer_words answer
 words_of nodes msgwait (event.QuorumLost answer) = answer_words answer

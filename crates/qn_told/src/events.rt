@@ -3,11 +3,11 @@ ghost use Rattle.std.specs.Prelude.{◌≡◌, ◌≤◌, ◌+◌, ◌++◌, ◌
 ghost use Rattle.qn_model.specs.Settings.{ids};
 ghost use Rattle.qn_names.specs.MemberWords.{member_word};
 ghost use Rattle.qn_names.specs.WhyTexts.{why_text};
-ghost use Rattle.qn_told.specs.Events.{answer_words, cause_text, event_line, level_of, name_of, words_of};
+ghost use Rattle.qn_told.specs.Events.{answer_words, candidate_of, cause_text, event_line, level_of, name_of, named_answer_words, words_of};
 ghost use Rattle.qn_event.specs.WholeLines.{text, with_words};
 
 use arrayvec::ArrayVec;
-use qn_base::{Mask, NodeId, Rank, add, add_number};
+use qn_base::{Mask, NodeId, Rank, View, add, add_number};
 use qn_event::{EventLine, Level, Moment};
 use qn_model::{Answer, HaltKind, Nodes, Why};
 use qn_names::{cause_number, phase_name, write_why};
@@ -18,6 +18,9 @@ const MEMBERS: usize = 250;
 
 /// The most bytes of a list of members: 32 numbers of at most 20 digits, with a comma each.
 const LIST: usize = 672;
+
+/// The numbers of views without a name, which stands in the high byte.
+const NAMES: u64 = 1 << 56;
 
 /// The line of an event, of a node of these, where msgwait is so long in milliseconds.
 pub fn event_line(at: Moment, nodes: &Nodes, msgwait: u64, event: &Event) -> EventLine
@@ -43,10 +46,10 @@ fn add_words(line: &mut EventLine, nodes: &Nodes, msgwait: u64, event: &Event)
         }
         Event::Claimed { incarnation } => line.number(b"incarnation", incarnation),
         Event::View { view, answer } => {
-            line.number(b"view", view.id);
+            line.number(b"view", view.id % NAMES);
             let members = member_list(nodes, view.members);
             line.word(b"members", members.as_slice(), MEMBERS);
-            add_answer(line, &answer);
+            add_named_answer(line, candidate_of(nodes, view), &answer);
         }
         Event::QuorumWon { answer } | Event::QuorumLost { answer } => add_answer(line, &answer),
         Event::Why { why } => add_why(line, &why),
@@ -65,6 +68,37 @@ fn add_words(line: &mut EventLine, nodes: &Nodes, msgwait: u64, event: &Event)
         Event::Halt { kind } => add_cause(line, kind),
         Event::Released | Event::StartAsked | Event::StopAsked | Event::HoldWon | Event::HoldLost =>
             {}
+    }
+}
+
+/// The id of the node that a view names as the one that may start, 0 where none may; None where it names none.
+fn candidate_of(nodes: &Nodes, view: View) -> Option<u64>
+    ensures { result ≡ candidate_of nodes.now view }
+{
+    if view.is_barred() {
+        return Some(0);
+    }
+    let name = view.id / NAMES;
+    if 0 < name && name <= nodes.len() as u64 && view.members.has(Rank((name - 1) as u8)) {
+        Some(u64::from(nodes.id_of(Rank((name - 1) as u8)).0))
+    } else {
+        None
+    }
+}
+
+/// Adds whom a view names, where it names anybody, and the count of the votes.
+fn add_named_answer(line: &mut EventLine, candidate: Option<u64>, answer: &Answer)
+    ensures head { line.new.head ≡ line.old.head }
+    ensures level { line.new.level ≡ line.old.level }
+    ensures words { line.new.words
+        ≡ with_words line.old.words (named_answer_words candidate answer.now) }
+{
+    match candidate {
+        Some(id) => {
+            line.number(b"candidate", id);
+            add_answer(line, answer);
+        }
+        None => add_answer(line, answer),
     }
 }
 
