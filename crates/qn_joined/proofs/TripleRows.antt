@@ -83,7 +83,6 @@ comes_up_first =
     record { on = refl; asked = refl; waits = refl; answer = tt; spells = refl } ▸
     record { on = refl; asked = refl; waits = refl; answer = refl; spells = refl } ▸
     record { on = refl; asked = refl; waits = refl; answer = tt; spells = refl } ▸
-    record { on = refl; asked = refl; waits = refl; answer = tt; spells = refl } ▸
     record { on = refl; asked = refl; waits = refl; answer = λ ok. refl; spells = refl } ▸
     (refl, refl, refl) ▸
     record { on = refl; asked = refl; waits = refl; answer = λ ok. refl; spells = refl } ▸
@@ -103,7 +102,6 @@ alone_first =
     (refl, refl) ▸
     record { on = refl; asked = refl; waits = refl; answer = tt; spells = refl } ▸
     record { on = refl; asked = refl; waits = refl; answer = refl; spells = refl } ▸
-    record { on = refl; asked = refl; waits = refl; answer = tt; spells = refl } ▸
     record { on = refl; asked = refl; waits = refl; answer = tt; spells = refl } ▸
     record { on = refl; asked = refl; waits = refl; answer = tt; spells = refl } ▸
     record { on = refl; asked = refl; waits = refl; answer = λ ok. refl; spells = refl } ▸
@@ -163,7 +161,6 @@ comes_up_second =
     record { on = refl; asked = refl; waits = refl; answer = tt; spells = refl } ▸
     record { on = refl; asked = refl; waits = refl; answer = refl; spells = refl } ▸
     record { on = refl; asked = refl; waits = refl; answer = tt; spells = refl } ▸
-    record { on = refl; asked = refl; waits = refl; answer = tt; spells = refl } ▸
     record { on = refl; asked = refl; waits = refl; answer = λ ok. refl; spells = refl } ▸
     (refl, refl, refl) ▸
     record { on = refl; asked = refl; waits = refl; answer = λ ok. refl; spells = refl } ▸
@@ -183,7 +180,6 @@ alone_second =
     (refl, refl) ▸
     record { on = refl; asked = refl; waits = refl; answer = tt; spells = refl } ▸
     record { on = refl; asked = refl; waits = refl; answer = refl; spells = refl } ▸
-    record { on = refl; asked = refl; waits = refl; answer = tt; spells = refl } ▸
     record { on = refl; asked = refl; waits = refl; answer = tt; spells = refl } ▸
     record { on = refl; asked = refl; waits = refl; answer = tt; spells = refl } ▸
     record { on = refl; asked = refl; waits = refl; answer = λ ok. refl; spells = refl } ▸
@@ -223,7 +219,6 @@ take_over_may =
     (refl, refl) ▸
     record { on = refl; asked = refl; waits = refl; answer = tt; spells = refl } ▸
     record { on = refl; asked = refl; waits = refl; answer = refl; spells = refl } ▸
-    record { on = refl; asked = refl; waits = refl; answer = tt; spells = refl } ▸
     record { on = refl; asked = refl; waits = refl; answer = tt; spells = refl } ▸
     record { on = refl; asked = refl; waits = refl; answer = tt; spells = refl } ▸
     record { on = refl; asked = refl; waits = refl; answer = λ ok. refl; spells = refl } ▸

@@ -1,7 +1,7 @@
 -- What the kernel says of a watchdog in its folder of sysfs, and which one may be armed: Linux, Documentation/ABI/testing/sysfs-class-watchdog
 -- and Documentation/watchdog/watchdog-api.rst; that each finding but nowayout refuses a start is this project's profile.
-use Rattle.std.specs.Prelude.{ℕ, Bool, ◌-◌, ◌&&◌, ◌==◌, nat_eq, nat_le, List, ◌∷◌, [], codes, length, slice_index, Option, None, Some, if◌then◌else◌}
-use Rattle.std.specs.List.{contains, starts_with}
+use Rattle.std.specs.Prelude.{ℕ, Bool, ◌-◌, ◌&&◌, ◌==◌, nat_eq, nat_le, List, codes, length, slice_index, Option, None, Some, if◌then◌else◌}
+use Rattle.std.specs.List.{list_any, starts_with}
 use Rattle.std.specs.Str.{bytes_eq}
 use Rattle.qn_exchange.specs.WatchdogTimes.{is_time_safe}
 use Rattle.qn_machine.specs.declared.watchdog_look.Finding.{Finding}
@@ -14,12 +14,12 @@ is_one text = bytes_eq text (codes "1\n")
 
 -- the hexadecimal digits of odd numbers
 abbrev pub is_odd_digit : ℕ → Bool
-is_odd_digit byte = contains nat_eq (codes "13579bdf") byte
+is_odd_digit byte = list_any (λ digit. byte == digit) (codes "13579bdf")
 
 -- the bit 0x100 of a number that is written as `0x8180`, with the end of its line: its third digit from the last is odd
 abbrev pub knows_magic_close : List ℕ → Bool
 knows_magic_close text =
-    starts_with nat_eq (codes "0x") text && nat_le 6 (length text) && is_odd_digit (slice_index text (length text - 4))
+    starts_with nat_eq text (codes "0x") && nat_le 6 (length text) && is_odd_digit (slice_index text (length text - 4))
 
 -- of a device whose time is known
 abbrev pub finding_at : ℕ → WatchdogSeen → ℕ → Option Finding

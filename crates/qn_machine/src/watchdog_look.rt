@@ -1,6 +1,6 @@
 //! A look at a watchdog before it is opened, since an opening arms it.
 ghost use Rattle.std.specs.Prelude.{◌≡◌};
-ghost use Rattle.qn_machine.specs.Watchdogs.{finding_of, is_one, knows_magic_close};
+ghost use Rattle.qn_machine.specs.Watchdogs.{finding_of, is_odd_digit, is_one, knows_magic_close};
 
 use crate::named_file::NamedFile;
 use arrayvec::{ArrayString, ArrayVec};
