@@ -1,4 +1,4 @@
-//! What Corosync does otherwise with settings that are taken here. docs/QUORUM.md and docs/SETTINGS.md have each difference in a table.
+//! What Corosync does otherwise with settings that are taken here. COROSYNC.md has each difference in a table.
 use crate::concerns::{device_votes, node_votes};
 use crate::flags::is_written;
 use crate::pairs::{Pair, Place};
