@@ -14,7 +14,7 @@ CONDITIONS = {
 FENCING = "node {0} may still run: its slot is read, or a reset is on its way"
 WAITING = "node {0} is reset, and {1} ms of msgwait remain"
 
-# why a boot is given up: docs/NODE.md
+# why a boot is given up: docs/dev/NODE.md
 CAUSES = {
     "boot-1": "a read failed",
     "boot-2": "the image is none of this cluster",

@@ -1,5 +1,5 @@
 """What a schedule beside an arbiter tells of the arbiter: when it runs, what it answers, and to whom it is bound by a yes that its lease
-still covers. docs/SCHEDULES.md has its lines, docs/QUORUM.md its rule."""
+still covers. docs/dev/SCHEDULES.md has its lines, docs/QUORUM.md its rule."""
 from lanes import ClusterLanes, LaneMaker
 from nodes import NodeBesideArbiter
 

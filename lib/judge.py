@@ -4,7 +4,7 @@ import itertools
 
 from nodes import DEADLY
 
-LOOPS = 8  # a majority that is well has a holder after so many loops and msgwait: docs/LIVE.md
+LOOPS = 8  # a majority that is well has a holder after so many loops and msgwait: docs/dev/VIEWS.md
 SEEN_AGAIN = 3  # a node that is seen again within so many loops is not to be reset
 LATELY = 8  # loops after its end in which an outage can still be the reason of a reset
 JOINED = 1  # loops: an outage that begins so soon after the last is the same one, since no Hello may have come in between

@@ -1,4 +1,4 @@
-"""The view maker of a node of a story: whom it hears and sees, whom it follows, and which view it takes. docs/VIEWS.md says the rules; ids stand
+"""The view maker of a node of a story: whom it hears and sees, whom it follows, and which view it takes. docs/dev/VIEWS.md says the rules; ids stand
 for ranks, since both ascend alike."""
 from collections import namedtuple
 

@@ -1,4 +1,4 @@
-"""The view maker of a node that names who may start under its views: docs/VIEWS.md, *Views that name who may start*. Where it sees a node that says
+"""The view maker of a node that names who may start under its views: docs/dev/VIEWS.md, *Views that name who may start*. Where it sees a node that says
 nothing of itself, it goes by the rules of members.py."""
 from collections import namedtuple
 

@@ -1,4 +1,4 @@
-"""The journals of running nodes (docs/FORMATS.md), of one or of several together, as lanes: a point a line, in the order of their times.
+"""The journals of running nodes (docs/dev/FORMATS.md), of one or of several together, as lanes: a point a line, in the order of their times.
 
 A node that is killed says no end. Its lane goes on as it last said, up to where another node writes its reset or holds in its place; from there on it is
 silent, and where nobody does, from its last line on, once its next boot opens."""

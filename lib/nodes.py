@@ -1,5 +1,5 @@
 """What a schedule and its trace tell of one node, event by event: where it is in its life, what its disk was asked for, which resets
-reached a mailbox. docs/SCHEDULES.md has the events and the words of OUTS."""
+reached a mailbox. docs/dev/SCHEDULES.md has the events and the words of OUTS."""
 import re
 from collections import namedtuple
 
@@ -157,7 +157,7 @@ class Node:
         return []
 
 
-# every event of a node: docs/SCHEDULES.md
+# every event of a node: docs/dev/SCHEDULES.md
 Node.EVENTS = {
     "boot": Node.boots,
     "boot-clean": Node.boots,

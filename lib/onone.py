@@ -1,4 +1,4 @@
-"""The record of a node on three images as that of a node on one: what the three told of an operation is put together by the rules of docs/NODE.md,
+"""The record of a node on three images as that of a node on one: what the three told of an operation is put together by the rules of docs/dev/NODE.md,
 and not by the program."""
 from told import DEADLY, MAILBOXES, mail_of
 

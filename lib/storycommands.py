@@ -1,4 +1,4 @@
-"""What each line of a story does to the world of storyworld.py. docs/STORIES.md says what the commands mean."""
+"""What each line of a story does to the world of storyworld.py. docs/dev/STORIES.md says what the commands mean."""
 from storytext import StoryFault
 from storyworld import DISK_MS, TooLong
 from traces import Refused

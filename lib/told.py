@@ -1,5 +1,5 @@
-"""What a node tells of a run in its journal, worked out from the calls that `quorumd node-logged` recorded of it: the events of docs/LIVE.md by
-the rules of docs/NODE.md, and not by the program. For settings whose votes are plain: a majority, and none of the flags of votequorum(5)."""
+"""What a node tells of a run in its journal, worked out from the calls that `quorumd node-logged` recorded of it: the events of docs/dev/LIVE.md by
+the rules of docs/dev/NODE.md, and not by the program. For settings whose votes are plain: a majority, and none of the flags of votequorum(5)."""
 import re
 import struct
 from collections import namedtuple

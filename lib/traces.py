@@ -1,5 +1,5 @@
 """Schedules and traces of quorumd, as bin/timeline, bin/story and bench/campaign read and make them: the words of a trace line, and how
-the program is called. docs/SCHEDULES.md says what the lines mean."""
+the program is called. docs/dev/SCHEDULES.md says what the lines mean."""
 import os
 import pathlib
 import shutil

@@ -10,7 +10,7 @@ from live import Cluster, Wrong, free_ports, in_namespace, milliseconds, same, w
 
 TIMES = "500,2100,1000,1000,500"
 MSGWAIT, LOOP = 2100, 1000
-BOUND = MSGWAIT + 8 * LOOP  # from a cut until a majority that is well has a holder, as docs/LIVE.md says
+BOUND = MSGWAIT + 8 * LOOP  # from a cut until a majority that is well has a holder, as docs/dev/VIEWS.md says
 STAGGER = 618  # thousandths of a loop between two starts, counted round within a loop
 
 RULES = """table inet cuts {

@@ -1,4 +1,4 @@
-"""For the scripts of this folder: what a settings text says, in bytes, spelled from docs/PACKETS.md a second time, and the tag of a packet."""
+"""For the scripts of this folder: what a settings text says, in bytes, spelled from docs/dev/PACKETS.md a second time, and the tag of a packet."""
 import hashlib
 import hmac
 import ipaddress

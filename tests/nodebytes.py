@@ -1,5 +1,5 @@
 """The bytes of a node, for its second program (tests/noderuns.py): what a settings text says, the sectors of docs/IMAGE.md, and the packets of
-docs/PACKETS.md. Ranks stand for nodes."""
+docs/dev/PACKETS.md. Ranks stand for nodes."""
 import struct
 from collections import namedtuple
 

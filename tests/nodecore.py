@@ -1,4 +1,4 @@
-"""The core of a node, entry by entry, as docs/NODE.md and docs/QUORUM.md tell it: what it asks of the disk, says to its peers and does with the
+"""The core of a node, entry by entry, as docs/dev/NODE.md and docs/QUORUM.md tell it: what it asks of the disk, says to its peers and does with the
 resource, for the second program of a running node (tests/noderuns.py)."""
 from collections import namedtuple
 

@@ -1,4 +1,4 @@
-"""The bytes of a poll and of its reply, by docs/PACKETS.md, written a second time for tests, and of the seal around a packet."""
+"""The bytes of a poll and of its reply, by docs/dev/PACKETS.md, written a second time for tests, and of the seal around a packet."""
 import hashlib
 import hmac
 import struct

@@ -9,7 +9,7 @@
 //! ```
 //!
 //! Nodes vote, ask and tell, fence, read their mailboxes, feed their watchdogs and hold the resource as in
-//! docs/NODE.md, and each event is judged by the rules of docs/SCHEDULES.md. As in quorumd, input is read in
+//! docs/dev/NODE.md, and each event is judged by the rules of docs/dev/SCHEDULES.md. As in quorumd, input is read in
 //! pieces of 4096 bytes, what was played is written before more is read, and a node keeps no history; only
 //! the packets and the lost writes grow.
 //!

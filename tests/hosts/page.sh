@@ -71,7 +71,8 @@ from_nothing() {
     "image_$way" && each_host file /etc/quorumd/resources.conf && each_host run database && run store 1 && each_host run no-data || return 1
     for n in 1 2 3; do
         printf '\n[signs]\nagent = systemd:database.service\nmonitor-interval = 2\n' >> "$room/host$n/etc/quorumd/resources.conf"
-        echo 'host all all 192.0.2.0/24 trust' >> "$room/host$n/etc/postgresql/15/main/pg_hba.conf"
+        # the client of the bed has no password
+        sed -i 's#^\(host all all 192.0.2.0/24\) scram-sha-256$#\1 trust#' "$room/host$n/etc/postgresql/15/main/pg_hba.conf"
         [ "$n" = 1 ] && create='' || create='s/ --create//'
         { block "run ${words[$way]}" && block 'run setup' | sed "$create"; } | on "$n" bash -eu || { echo "host $n: setup ended with $?"; return 1; }
         sed -i 's#^WATCHDOG=.*#WATCHDOG=/srv/watchdog/watchdog#; $a WATCHDOG_IS_NO_DEVICE=yes' "$room/host$n/etc/quorumd/node-$n.env"

@@ -613,7 +613,7 @@ scene_pages() {
     local pages
     begun || return 1
     cp "$here/../parts/package.py" "$shared/"
-    pages=(README.md docs/{README,TRY,STORIES,SCHEDULES,STATUS,LIVE,IMAGE,SAFETY,FORMATS,QUORUM,SETTINGS}.md contrib/README.md
+    pages=(README.md docs/{README,NIGHT,STATUS,HOST,IMAGE,QUORUM,SETTINGS}.md docs/dev/{SAFETY,FORMATS}.md contrib/README.md
         examples/{incidents,live}/README.md)
     on 1 sh -c 'cd "$(mktemp -d)" && python3 -B /srv/cluster/package.py /usr/share/quorumd "$@"' sh "${pages[@]}" || return 1
     on 1 dpkg --verify quorumd | grep -v ' /etc/' && return 1

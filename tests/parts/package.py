@@ -10,7 +10,7 @@ import tempfile
 
 NEW_FOLDER = 'cd "$(mktemp -d)" && ln -s "$OLDPWD"/* .'
 TOOLS = ("jq", "xxd", "flock")
-LEAST = 2  # commands of a page
+LEAST = 1  # commands of a page
 
 
 def examples_of(page):
@@ -48,7 +48,7 @@ def main():
     top = pathlib.Path(os.path.abspath(sys.argv[1]))
     for page in sys.argv[2:]:
         if try_page(top, page) < LEAST:
-            sys.exit("%s: fewer than %d commands" % (page, LEAST))
+            sys.exit("%s: fewer commands than %d" % (page, LEAST))
 
 
 main()

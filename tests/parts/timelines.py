@@ -198,7 +198,8 @@ def try_picture(folder):
 
 
 def folders(kind):
-    return sorted(folder for folder in (TOP / "examples" / kind).iterdir() if folder.is_dir())
+    """The folders of that kind that have a picture."""
+    return sorted(path.parent for path in (TOP / "examples" / kind).glob("*/timeline.svg"))
 
 
 for folder in folders("incidents"):
@@ -207,7 +208,7 @@ for folder in folders("incidents"):
 for folder in folders("arbiter"):
     picture, _, events, trace = try_picture(folder)
     try_votes(folder.name, picture, events, trace)
-for path in "examples/try.svg", "examples/three-images/an-image-is-lost/timeline.svg", "examples/live/journal.svg", "docs/take-over.svg", *sys.argv[1:]:
+for path in "examples/try.svg", "examples/three-images/an-image-is-lost/timeline.svg", "examples/live/journal.svg", "tests/machines/take-over.svg", *sys.argv[1:]:
     picture = Picture(TOP / path)
     try_texts(path, picture)
     try_width(path, picture)

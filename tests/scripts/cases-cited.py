@@ -24,10 +24,10 @@ def wrong_of(group, pages):
     yield from ("%s: %s has %d rows" % (group.name, case, named.count(case)) for case in sorted(cases | {*named}) if named.count(case) != (case in cases))
     for row in filter(None, rows):
         if words_of(row[3]) not in pages.get(row[2], ""):
-            yield "%s: %s: docs/%s.md does not say: %s" % (group.name, row[1], row[2], row[3])
+            yield "%s: %s: %s.md does not say: %s" % (group.name, row[1], row[2], row[3])
 
 
-pages = {page.stem: words_of(page.read_text()) for page in TOP.glob("docs/*.md")}
+pages = {page.stem: words_of(page.read_text()) for page in TOP.glob("docs/**/*.md")}
 groups = [path for path in sorted((TOP / "tests" / "cases").iterdir()) if path.is_dir()]
 wrong = [line for group in groups for line in wrong_of(group, pages)]
 print("\n".join(wrong))

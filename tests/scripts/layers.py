@@ -1,5 +1,5 @@
 """No crate cites the proofs of another one, and each names every library of its line in crates.txt. crates.txt stands in layers, with that of
-simulator/crates behind them, each crate on crates that stand before it there; docs/ARCHITECTURE.md has the same layers with the same crates, and what
+simulator/crates behind them, each crate on crates that stand before it there; docs/dev/ARCHITECTURE.md has the same layers with the same crates, and what
 each stands on: a row names crates of its line, and the others of that line stand below those. What a layer says that it is never on, no crate of it
 stands on, not even through other crates, but for those that it names. crates/README.md is that map in short: after the word --write it is written."""
 import re
@@ -12,7 +12,7 @@ NEVER = re.compile(r"; never on ([\w ,]+?)(?: but through ([\w ]+))?$")
 MAP = """# The crates
 
 For whoever opens this folder: which crate does what, from below upward. A crate stands on crates of its own layer and of those above it on this page.
-[The map](../docs/ARCHITECTURE.md#layers-and-crates) says what each promises and what it stands on.
+[The map](../docs/dev/ARCHITECTURE.md#layers-and-crates) says what each promises and what it stands on.
 
 From a rule of a page to what says it and what does it:
 
@@ -24,7 +24,7 @@ From a rule of a page to what says it and what does it:
 | a wrong edit that the check refuses | `tests/edits/` |
 | a row from outside | `tests/rows`, `tests/cases` |
 
-[Four walks](../docs/CHANGING.md#four-walks) go that way, for one rule each of settings, quorum, safety and views. This page is written by
+[Four walks](../docs/dev/CHANGING.md#four-walks) go that way, for one rule each of settings, quorum, safety and views. This page is written by
 `PYTHONPATH=tests python3 tests/scripts/layers.py --write`."""
 wrong = []
 
@@ -49,7 +49,7 @@ def layers_of_crates():
 
 def layers_of_page():
     """The layers of the page: of each its name, what it speaks of, and its crates, each with the cells of its row."""
-    part = (TOP / "docs" / "ARCHITECTURE.md").read_text().split("\n## Layers and crates\n")[1].split("\n### Crates with one user\n")[0]
+    part = (TOP / "docs" / "dev" / "ARCHITECTURE.md").read_text().split("\n## Layers and crates\n")[1].split("\n### Crates with one user\n")[0]
     layers = []
     for text in part.split("\n### ")[1:]:
         rows = [[cell.strip() for cell in line.strip("|").split("|")] for line in text.splitlines() if line.startswith("| `")]
@@ -71,9 +71,9 @@ def look_at_layers(page):
     if [(name, of, [*crates]) for name, of, crates in page] != layers_of_crates():
         for there, here in zip(layers_of_crates(), page):
             if there != (here[0], here[1], [*here[2]]):
-                wrong.append("docs/ARCHITECTURE.md has the layer %s (%s) with %s, and crates.txt %s (%s) with %s" % (
+                wrong.append("docs/dev/ARCHITECTURE.md has the layer %s (%s) with %s, and crates.txt %s (%s) with %s" % (
                     here[0], here[1], " ".join(here[2]), there[0], there[1], " ".join(there[2])))
-        wrong.append("the layers of crates.txt and of docs/ARCHITECTURE.md are not the same ones")
+        wrong.append("the layers of crates.txt and of docs/dev/ARCHITECTURE.md are not the same ones")
 
 
 def through(crate, uses, passed):
@@ -120,9 +120,9 @@ def look_at_rows(uses, rows):
     for crate in uses.keys() & rows.keys():
         named = set(re.findall(r"`(\w+)`", rows[crate][-1]))
         for other in sorted(named - uses[crate]):
-            wrong.append("docs/ARCHITECTURE.md says that %s stands on %s, and crates.txt does not" % (crate, other))
+            wrong.append("docs/dev/ARCHITECTURE.md says that %s stands on %s, and crates.txt does not" % (crate, other))
         for other in sorted(uses[crate] - below(named & uses.keys(), uses)):
-            wrong.append("docs/ARCHITECTURE.md does not say that %s stands on %s" % (crate, other))
+            wrong.append("docs/dev/ARCHITECTURE.md does not say that %s stands on %s" % (crate, other))
 
 
 def sources_of(crate):
@@ -157,7 +157,7 @@ def look_at_map(page):
     if "--write" in sys.argv[1:]:
         file.write_text(map_of(page))
     elif not file.exists() or file.read_text() != map_of(page):
-        wrong.append("crates/README.md is not that of docs/ARCHITECTURE.md: layers.py --write writes it")
+        wrong.append("crates/README.md is not that of docs/dev/ARCHITECTURE.md: layers.py --write writes it")
 
 
 libraries = lines_of_crates()

@@ -1,4 +1,4 @@
-# The recipe of docs/SCHEDULES.md for letting time pass, step by step from the trace, until the node starts: it gives the
+# The recipe of docs/dev/SCHEDULES.md for letting time pass, step by step from the trace, until the node starts: it gives the
 # schedule of examples/. The shorter way, one answer a second, never comes to fencing.
 . "$TOP/tests/expect.sh"
 

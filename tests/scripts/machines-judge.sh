@@ -90,4 +90,4 @@ grep -v '^#' "$TOP/tests/machines/bounds" | cut -f 1 | sort > bounded
 same "$(comm -13 scenes bounded)" ''
 same "$(comm -23 scenes bounded | paste -sd ' ')" 'leader_killed long_sectors_unsaid two_servers_of_three wrong_watchdog'
 
-"$TOP/bin/timeline" --title 'The node of the holder is killed' --journal "$TOP/tests/machines/take-over.journal" | cmp - "$TOP/docs/take-over.svg"
+"$TOP/bin/timeline" --title 'The node of the holder is killed' --journal "$TOP/tests/machines/take-over.journal" | cmp - "$TOP/tests/machines/take-over.svg"

@@ -1,4 +1,4 @@
-# The blocks of docs/MACHINES.md as far as one machine goes, without root: systemd takes its units, bash its commands, and the three block servers and
+# The blocks of docs/MACHINES.md and docs/NIGHT.md as far as one machine goes, without root: systemd takes its units, bash its commands, and the three block servers and
 # quorumd-setup, as the page calls them, make an image that a node takes. The rest is run by tests/hosts (page.sh) and tests/machines (bed.sh).
 . "$TOP/tests/expect.sh"
 page=$TOP/docs/MACHINES.md
@@ -7,7 +7,7 @@ page=$TOP/docs/MACHINES.md
 # what a lab is to write or run, a lab names
 while read -r kind name; do
     grep -qF -- "${name##*/}" "$TOP/tests/hosts/page.sh" "$TOP/tests/machines/bed.sh" || { printf 'no lab takes the block %s %s\n' "$kind" "$name"; exit 1; }
-done < <(sed -n 's/^```\(file\|run\) /\1 /p' "$page")
+done < <(sed -n 's/^```\(file\|run\) /\1 /p' "$page" "$TOP/docs/NIGHT.md")
 
 mkdir units
 for unit in quorumd-disk quorumd-server; do

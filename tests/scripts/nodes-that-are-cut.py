@@ -1,4 +1,4 @@
-"""Three and five nodes whose packets are dropped: the cluster's majority has a holder within the bound of docs/LIVE.md, no node that it sees
+"""Three and five nodes whose packets are dropped: the cluster's majority has a holder within the bound of docs/dev/VIEWS.md, no node that it sees
 is reset, and no two hold. The holder is cut off, and another node; no packet comes for two seconds and for five; one way is cut; one cable is cut, and
 links one way, also before the nodes boot; the network heals. A holder that leaves clean is followed within two loops, and an announced view of the greatest number stops no take-over.
 The packets are dropped by the firewall of a network namespace, where both are to be had, else by a relay between the nodes."""

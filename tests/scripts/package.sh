@@ -114,7 +114,7 @@ fi
 # all that a newcomer runs is that of the package, and nothing is written into it
 unset QUORUMD QUORUMCTL
 chmod -R a-w root/usr/share
-python3 -B "$TOP/tests/parts/package.py" root/usr/share/quorumd docs/README.md docs/TRY.md docs/SCHEDULES.md docs/STATUS.md contrib/README.md
+python3 -B "$TOP/tests/parts/package.py" root/usr/share/quorumd docs/README.md docs/NIGHT.md docs/STATUS.md docs/HOST.md docs/IMAGE.md docs/dev/SAFETY.md contrib/README.md
 chmod -R u+w root/usr/share
 (cd root && md5sum --quiet -c ../control/md5sums)
 cd "$(mktemp -d -p .)"

@@ -9,7 +9,7 @@
   text             no command
 
 And what has one place stands there alone: the table of conditions, the exit statuses, the rule of safe times. The manual page is read alone, so it has
-the conditions and the statuses too, and they are those of the pages. What `quorumctl status` can say, docs/MACHINES.md says what to do about. Each link
+the conditions and the statuses too, and they are those of the pages. What `quorumctl status` can say, docs/NIGHT.md says what to do about. Each link
 leads somewhere, and no cell of a table is a paragraph."""
 import os
 import pathlib
@@ -19,7 +19,7 @@ import subprocess
 import sys
 
 TOP = pathlib.Path(os.environ["TOP"])
-PAGES = sorted([TOP / "README.md", *TOP.glob("docs/*.md"), *TOP.glob("bench/*.md"), *TOP.glob("contrib/*.md"),
+PAGES = sorted([TOP / "README.md", *TOP.glob("docs/**/*.md"), *TOP.glob("bench/*.md"), *TOP.glob("contrib/*.md"),
                 *TOP.glob("examples/**/*.md")])
 # tools that a machine may lack, and the Debian package of each
 PACKAGES = {"jq": "jq", "xxd": "xxd", "flock": "util-linux"}
@@ -27,7 +27,7 @@ PACKAGES = {"jq": "jq", "xxd": "xxd", "flock": "util-linux"}
 NEW_FOLDER = 'cd "$(mktemp -d)" && ln -s "$OLDPWD"/* .'
 # what a clone has at its top and the package in /usr/share/quorumd: the examples of all pages but those for whoever changes the program use nothing else
 PACKED = ("README.md", "contrib", "docs", "examples", "lib")
-OF_SOURCES = {"docs/ARCHITECTURE.md", "docs/CHANGING.md", "docs/PACKETS.md", "docs/PROVED.md", "bench/README.md"}
+OF_SOURCES = {"docs/dev/ARCHITECTURE.md", "docs/dev/CHANGING.md", "docs/dev/PACKETS.md", "docs/dev/PROVED.md", "bench/README.md"}
 wrong = []
 
 
@@ -160,13 +160,12 @@ def try_blocks(page, folder):
 
 
 def folder_of(page):
-    """A new folder in which what the page may use stands, with the program as bin/quorumd."""
+    """A new folder in which what the page may use stands, with the programs in its bin."""
     folder = pathlib.Path("run", str(page.relative_to(TOP)).replace("/", "-"))
     (folder / "bin").mkdir(parents=True)
-    (folder / "bin" / "quorumd").symlink_to(os.environ["QUORUMD"])
+    programs = {"quorumd": os.environ["QUORUMD"], "quorumctl": os.environ["QUORUMCTL"]}
     for script in (TOP / "bin").iterdir():
-        if script.name != "quorumd":
-            (folder / "bin" / script.name).symlink_to(script)
+        (folder / "bin" / script.name).symlink_to(programs.get(script.name, script))
     of_sources = str(page.relative_to(TOP)) in OF_SOURCES
     for there in TOP.iterdir():
         if there.name in PACKED or of_sources and there.name not in ("bin", "out") and not there.name.startswith("."):
@@ -176,14 +175,14 @@ def folder_of(page):
 
 # what stands in one place: a pattern of its lines, and the page
 PLACES = [
-    (r"^\| `?unheard", "docs/STATUS.md", "the table of conditions"),
-    (r"^\| 16 \| `fault", "docs/FORMATS.md", "the table of exit statuses"),
-    (r"99 \*? ?\((M|msgwait) - 1\) >= 101", "docs/SAFETY.md", "the rule of safe times"),
+    (r"^\| `?unheard", "docs/NIGHT.md", "the table of conditions"),
+    (r"^\| 16 \| `fault", "docs/dev/FORMATS.md", "the table of exit statuses"),
+    (r"99 \*? ?\((M|msgwait) - 1\) >= 101", "docs/dev/SAFETY.md", "the rule of safe times"),
 ]
 
 
 # the pages that a newcomer tries in a clone: their examples take away what they made
-TIDY = ("README.md", "docs/README.md", "docs/TRY.md", "docs/STORIES.md", "docs/STATUS.md", "docs/LIVE.md", "docs/MACHINES.md")
+TIDY = ("README.md", "docs/README.md", "docs/dev/TRY.md", "docs/dev/STORIES.md", "docs/dev/LIVE.md", "docs/STATUS.md", "docs/HOST.md", "docs/IMAGE.md", "docs/MACHINES.md", "docs/NIGHT.md")
 
 
 def look_for_leftovers(page, folder):
@@ -245,8 +244,8 @@ SAID_AT_NIGHT = (
     "down", "holding", "no-view", "wait-for-all", "not-quorate:", "not-chosen:", "held-by:", "unheard:", "unfenced:N:unwritten", "unfenced:N:LEFT", "clear",
     "`off`", "`booting`", "`up`", "`leaving`", "`dying`", "`silent`", "`ended`",
     "mail reset", "crashdump", "mail exit", "mail damaged", "mail failed",
-    "healthy: ", "degraded: ", "no owner", "unknown: no node answers", "owner not known: ", "tells nothing", "hands over to", "its group is", "nothing looks after its group", "does not see", "refused: another key or text",
-    "not quorate", "is leaving", "is dying", "ended: ", "silent for", "is of another boot of this host", "TWO HOLDERS: ",
+    "healthy: ", "degraded: ", "no owner", "unknown: no node answers", "owner not known: ", "tells nothing", "hands over to", "its group is", "nothing looks after its group",
+    "does not see", "refused: another key or text", "not quorate", "is leaving", "is dying", "ended: ", "silent for", "is of another boot of this host", "TWO HOLDERS: ",
 )
 
 
@@ -256,23 +255,23 @@ def text_of(place):
 
 def look_at_conditions():
     """Each condition that blocks a start has its row, its place in the schema, and its item of the manual page."""
-    places = {"docs/STATUS.md": r"(?m)^\| `%s[`:]", "docs/status.schema.json": r"[\"(|^]%s[\"|):]", "man/quorumd.8": r"(?m)^\.It Ql %s\b"}
+    places = {"docs/NIGHT.md": r"(?m)^\| `%s[`:]", "docs/status.schema.json": r"[\"(|^]%s[\"|):]", "man/quorumd.8": r"(?m)^\.It Ql %s\b"}
     for why in CONDITIONS:
         wrong.extend("%s has no %s" % (place, why) for place, pattern in places.items() if not re.search(pattern % why, text_of(place)))
 
 
 def look_at_statuses():
-    """The exit statuses of the manual page are those of docs/FORMATS.md."""
+    """The exit statuses of the manual page are those of docs/dev/FORMATS.md."""
     listed = re.findall(r"(?m)^\.It (\d\S*)", text_of("man/quorumd.8").split("\n.Sh EXIT STATUS\n")[1].split("\n.Sh ")[0])
-    table = re.findall(r"(?m)^\| (\d\S*)", text_of("docs/FORMATS.md").split("\n## Fault lines and statuses\n")[1].split("\n## ")[0])
+    table = re.findall(r"(?m)^\| (\d\S*)", text_of("docs/dev/FORMATS.md").split("\n## Fault lines and statuses\n")[1].split("\n## ")[0])
     if listed != table or len(table) < 10:
-        wrong.append("man/quorumd.8 has the statuses %s, and docs/FORMATS.md %s" % (" ".join(listed), " ".join(table)))
+        wrong.append("man/quorumd.8 has the statuses %s, and docs/dev/FORMATS.md %s" % (" ".join(listed), " ".join(table)))
 
 
 def look_at_night():
-    """docs/MACHINES.md says what to do about all that `quorumctl status` can say."""
-    part = text_of("docs/MACHINES.md").split("\n## At three in the morning\n")[1].split("\n## Upgrades\n")[0]
-    wrong.extend("docs/MACHINES.md says nothing of %s" % word for word in SAID_AT_NIGHT if word not in part)
+    """docs/NIGHT.md says what to do about all that `quorumctl status` can say."""
+    page = text_of("docs/NIGHT.md")
+    wrong.extend("docs/NIGHT.md says nothing of %s" % word for word in SAID_AT_NIGHT if word not in page)
 
 
 for page in PAGES:

@@ -1,5 +1,5 @@
 # `quorumctl settings`: what Corosync does otherwise with a text that is taken, and what of a text is passed over. Each row of the tables of
-# docs/QUORUM.md and docs/SETTINGS.md of which a text shows anything is here.
+# docs/dev/COROSYNC.md of which a text shows anything is here.
 . "$TOP/tests/expect.sh"
 
 # nodes VOTES: a nodelist of nodes with these votes

@@ -1,4 +1,4 @@
-"""Each row of the table of walks in docs/CHANGING.md leads where it says: the page has the heading, the definitions and functions stand in
+"""Each row of the table of walks in docs/dev/CHANGING.md leads where it says: the page has the heading, the definitions and functions stand in
 their files, the clauses of the code cite a definition of the row, the proof of the law cites the file that it is by, and the tests are there."""
 import os
 import pathlib
@@ -7,17 +7,17 @@ import sys
 
 TOP = pathlib.Path(os.environ["TOP"])
 PLACE = re.compile(r"`(\w+)` in `(crates/[^`]+)`")
-PAGE = re.compile(r"\]\((\w+\.md)#([\w-]+)\)")
+PAGE = re.compile(r"\]\(((?:\.\./)?\w+\.md)#([\w-]+)\)")
 wrong = []
 
 
 def expect(holds, what):
     if not holds:
-        wrong.append("docs/CHANGING.md: " + what)
+        wrong.append("docs/dev/CHANGING.md: " + what)
 
 
 def rows():
-    table = (TOP / "docs" / "CHANGING.md").read_text().split("\n## Four walks\n")[1].split("\n## ")[0]
+    table = (TOP / "docs" / "dev" / "CHANGING.md").read_text().split("\n## Four walks\n")[1].split("\n## ")[0]
     return [[cell.strip() for cell in line.strip("|").split(" | ")] for line in table.splitlines() if line.startswith("| [")]
 
 
@@ -27,7 +27,7 @@ def text(path):
 
 
 def anchors(page):
-    titles = re.findall(r"^#+ (.*)$", text("docs/" + page), re.M)
+    titles = re.findall(r"^#+ (.*)$", text("docs/dev/" + page), re.M)
     return {re.sub(r"[^\w -]", "", title.lower()).replace(" ", "-") for title in titles}
 
 
@@ -39,7 +39,7 @@ def clauses(source, name):
 
 def look_at_rule(cell):
     for page, anchor in PAGE.findall(cell):
-        expect(anchor in anchors(page), "docs/%s has no heading %s" % (page, anchor))
+        expect(anchor in anchors(page), "docs/dev/%s has no heading %s" % (page, anchor))
 
 
 def look_at_definitions(cell):

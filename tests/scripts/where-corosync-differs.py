@@ -1,5 +1,5 @@
-"""Where Corosync differs: our side of each row of the table of docs/QUORUM.md, from the settings and events that it names; and of each text
-of tests/rows/corosync-texts.tsv, which docs/SETTINGS.md names. Where Corosync 3.1.7 is installed, `corosync -t` judges each text as the
+"""Where Corosync differs: our side of each row of the table of votes of docs/dev/COROSYNC.md, from the settings and events that it names; and of each text
+of tests/rows/corosync-texts.tsv, which that page names. Where Corosync 3.1.7 is installed, `corosync -t` judges each text as the
 table says (column 4; `-` says nothing)."""
 import os
 import pathlib
@@ -9,8 +9,8 @@ import subprocess
 import sys
 
 TOP = pathlib.Path(os.environ["TOP"])
-SETTINGS = (TOP / "docs" / "SETTINGS.md").read_text()
-PART = (TOP / "docs" / "QUORUM.md").read_text().split("\n## Where a user of corosync may be surprised\n")[1].split("\n## ")[0]
+PAGE = (TOP / "docs" / "dev" / "COROSYNC.md").read_text()
+PART = PAGE.split("\n## Votes\n")[1].split("\n## ")[0]
 UP = ["land", "done"] * 4  # the header, the own slot, the claim and the clear: the node is up
 wrong = []
 
@@ -78,8 +78,8 @@ def look_at_text(name, text, answer, judged):
     got = subprocess.run([os.environ["QUORUMD"], "replay"], input=head, stdout=subprocess.PIPE, check=False).stdout.decode()
     if got != answer + "\n":
         wrong.append("%s: wanted %s, got %s" % (name, answer, got))
-    if "`%s`" % name not in SETTINGS:
-        wrong.append("docs/SETTINGS.md does not name the row %s" % name)
+    if "`%s`" % name not in PAGE:
+        wrong.append("docs/dev/COROSYNC.md does not name the row %s" % name)
     if judged is not None:
         pathlib.Path("text").write_bytes(text)
         status = subprocess.run(["corosync", "-t", "-c", os.path.abspath("text")], capture_output=True, check=False).returncode
@@ -103,6 +103,6 @@ if not is_tried:
 for name, text, answer, judged in texts():
     look_at_text(name, text, answer, judged if is_tried else None)
 if len(rows()) < 20:
-    wrong.append("the table of docs/QUORUM.md has %d rows" % len(rows()))
+    wrong.append("the table of votes of docs/dev/COROSYNC.md has %d rows" % len(rows()))
 print("\n".join(wrong))
 sys.exit(1 if wrong else 0)
