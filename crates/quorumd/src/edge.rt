@@ -30,8 +30,8 @@ pub const ARBITER: &str = "arbiter";
 
 /// A settings text that was read, and the names of its nodes by rank, of those that can be shown.
 #[derive(Drop)]
-pub struct NamedText<'words> {
-    pub text: Text<'words>,
+pub struct NamedText {
+    pub text: Text,
     pub names: Vec<Option<String>>,
 }
 
@@ -40,7 +40,7 @@ pub fn edge_of<'words, R: Files<File = File> + AllocGlobal + Eprint>(
     rt: &R,
     before: &Before<'words>,
     command: &str,
-) -> Result<(Edge, Option<NamedText<'words>>), u8> {
+) -> Result<(Edge, Option<NamedText>), u8> {
     let mut edge = Edge::local();
     if before.is_anew {
         edge.overwrites = Overwrites::Anything;
@@ -61,6 +61,7 @@ pub fn edge_of<'words, R: Files<File = File> + AllocGlobal + Eprint>(
     let text = match before.links {
         Some(path) => {
             let bytes = read_file(rt, path, MOST_TEXT_BYTES as u64 + 1)?;
+            let path = String::from_str(rt.alloc(), path).map_err(|_| NO_MEMORY)?;
             let text = Text { path, bytes };
             let names = take_text(rt, before, &text, command, &mut edge)?;
             Some(NamedText { text, names })
@@ -75,11 +76,11 @@ pub fn edge_of<'words, R: Files<File = File> + AllocGlobal + Eprint>(
 fn take_text<R: AllocGlobal + Eprint>(
     rt: &R,
     before: &Before<'_>,
-    text: &Text<'_>,
+    text: &Text,
     command: &str,
     edge: &mut Edge,
 ) -> Result<Vec<Option<String>>, u8> {
-    let (path, bytes) = (text.path, text.bytes.as_slice());
+    let (path, bytes) = (text.path.as_str(), text.bytes.as_slice());
     let tree = read_whole(rt, path, bytes)?;
     let settings = read_settings(rt, path, &tree)?;
     let sections = sections_of(rt.alloc(), &tree).map_err(|_| NO_MEMORY)?;

@@ -54,14 +54,13 @@ fn run(rt: &HostRuntime, said: Outside<'_>, words: &[String]) -> u8 {
     let host = SteadyHost::new(rt);
     let lines = Lines::new(id_in(words), is_in_journal(rt));
     let input = StdSource::new(rt.reader(), lines.over(rt));
-    let text = said.text.as_ref();
-    let mut input = SameText::new(input, lines.over(rt), text.map(|named| &named.text));
+    let (text, names) = match &said.text {
+        Some(named) => (Some(&named.text), NodeNames::new(named.names.as_slice())),
+        None => (None, NodeNames::new(&[])),
+    };
+    let mut input = SameText::new(input, lines.over(rt), text);
     let mut out = StdSink::new(io::writer(rt), lines.over(rt));
     let mut env = RealEnv::new(SteadyHost::new(rt), said.edge, &lines);
-    let names = match text {
-        Some(named) => NodeNames::new(named.names.as_slice()),
-        None => NodeNames::new(&[]),
-    };
     let mut journal = journal_of(&host, process::id(rt.process()), &lines, said.files, names);
     let status = top(
         rt.alloc(),
@@ -108,7 +107,7 @@ struct NodeFiles<'words> {
 struct Outside<'words> {
     edge: Edge,
     files: NodeFiles<'words>,
-    text: Option<NamedText<'words>>,
+    text: Option<NamedText>,
 }
 
 /// What the words before the command say, and the words after them; or the status to end with.

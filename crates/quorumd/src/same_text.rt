@@ -7,8 +7,8 @@ use qn_io::Source;
 
 /// A settings text that was read before the command.
 #[derive(Drop)]
-pub struct Text<'words> {
-    pub path: &'words str,
+pub struct Text {
+    pub path: String,
     pub bytes: Vec<u8>,
 }
 
@@ -18,7 +18,7 @@ pub struct Text<'words> {
 pub struct SameText<'text, S: Source + Drop, E: Eprint + Drop> {
     source: S,
     errors: E,
-    text: Option<&'text Text<'text>>,
+    text: Option<&'text Text>,
     /// How many bytes of the text were read.
     count: usize,
     faults: u64,
@@ -26,7 +26,7 @@ pub struct SameText<'text, S: Source + Drop, E: Eprint + Drop> {
 
 impl<'text, S: Source + Drop, E: Eprint + Drop> SameText<'text, S, E> {
     /// A source over this one, which is at its beginning.
-    pub fn new(source: S, errors: E, text: Option<&'text Text<'text>>) -> SameText<'text, S, E> {
+    pub fn new(source: S, errors: E, text: Option<&'text Text>) -> SameText<'text, S, E> {
         SameText {
             source,
             errors,
@@ -65,7 +65,7 @@ impl<'text, S: Source + Drop, E: Eprint + Drop> SameText<'text, S, E> {
         self.count = self.count.saturating_add(bytes.len());
         let is_next = rest.starts_with(bytes) && bytes.is_empty() == rest.is_empty();
         if !is_next {
-            let path = text.path;
+            let path = text.path.as_str();
             let _ = eprintln!(&self.errors;
                 "{PROGRAM}: {path}: the settings text on standard input is another one"
             );
