@@ -12,7 +12,7 @@ mod edge;
 mod same_text;
 
 use before::{Before, WordFault, is_running};
-use edge::{NamedText, edge_of};
+use edge::edge_of;
 use qn_base::read_decimal;
 use qn_io::put_all;
 use qn_journal::{Journal, NodeNames};
@@ -22,7 +22,7 @@ use qn_usage::{
     BEFORE, NO_MEMORY, QUORUMD, USAGE, WRITE_FAULT, help_text, refusal_of, version_text,
     words_given,
 };
-use same_text::SameText;
+use same_text::{SameText, Text};
 use std::fs::File;
 use std::process::{self, ExitCode};
 use std::rt::{Env, Files};
@@ -50,18 +50,20 @@ fn main(rt: HostRuntime) -> ExitCode {
 /// Calls `top` on these words, and gives the status to end with. Of what stands on the stack while a command runs this frame has the most:
 /// what was read before has others, which are gone then.
 #[inline(never)]
-fn run(rt: &HostRuntime, said: Outside<'_>, words: &[String]) -> u8 {
+fn run(rt: &HostRuntime, said: Outside, words: &[String]) -> u8 {
     let host = SteadyHost::new(rt);
     let lines = Lines::new(id_in(words), is_in_journal(rt));
     let input = StdSource::new(rt.reader(), lines.over(rt));
-    let (text, names) = match &said.text {
-        Some(named) => (Some(&named.text), NodeNames::new(named.names.as_slice())),
-        None => (None, NodeNames::new(&[])),
-    };
-    let mut input = SameText::new(input, lines.over(rt), text);
+    let mut input = SameText::new(input, lines.over(rt), said.text);
     let mut out = StdSink::new(io::writer(rt), lines.over(rt));
     let mut env = RealEnv::new(SteadyHost::new(rt), said.edge, &lines);
-    let mut journal = journal_of(&host, process::id(rt.process()), &lines, said.files, names);
+    let mut journal = journal_of(
+        &host,
+        process::id(rt.process()),
+        &lines,
+        &said.files,
+        names_of(&said.names),
+    );
     let status = top(
         rt.alloc(),
         words,
@@ -76,17 +78,33 @@ fn run(rt: &HostRuntime, said: Outside<'_>, words: &[String]) -> u8 {
     status
 }
 
+/// The names of the nodes, none where no text says them.
+fn names_of(names: &Option<Vec<Option<String>>>) -> NodeNames<'_> {
+    match names {
+        Some(names) => NodeNames::new(names.as_slice()),
+        None => NodeNames::new(&[]),
+    }
+}
+
 /// The journal of a node, of the process of that number, with the files of these paths and these names of the nodes.
 #[inline(never)]
 fn journal_of<'a, 'host>(
     host: &'a SteadyHost<'host>,
     pid: u32,
     lines: &'a Lines,
-    files: NodeFiles<'a>,
+    files: &'a NodeFiles,
     names: NodeNames<'a>,
 ) -> Journal<'a, SteadyHost<'host>> {
-    let status = files.status.and_then(ReplacedFile::at);
-    Journal::new(host, lines, status, files.group, names, pid)
+    let status = files.status.as_ref().map(String::as_str);
+    let group = files.group.as_ref().map(String::as_str);
+    Journal::new(
+        host,
+        lines,
+        status.and_then(ReplacedFile::at),
+        group,
+        names,
+        pid,
+    )
 }
 
 /// Whether standard error goes to systemd's journal.
@@ -96,18 +114,20 @@ fn is_in_journal(rt: &(impl Env + AllocGlobal)) -> bool {
 }
 
 /// The paths of the status file, which can be one, and of the file in which a supervisor says how the group is.
-#[derive(Clone, Copy)]
-struct NodeFiles<'words> {
-    status: Option<&'words str>,
-    group: Option<&'words str>,
+#[derive(Drop)]
+struct NodeFiles {
+    status: Option<String>,
+    group: Option<String>,
 }
 
 /// What the words before the command say of the outside, of the files of a node, and the settings text that is to come on standard input.
 #[derive(Drop)]
-struct Outside<'words> {
+struct Outside {
     edge: Edge,
-    files: NodeFiles<'words>,
-    text: Option<NamedText>,
+    files: NodeFiles,
+    text: Option<Text>,
+    /// How the nodes are called, by rank, where a text says it.
+    names: Option<Vec<Option<String>>>,
 }
 
 /// What the words before the command say, and the words after them; or the status to end with.
@@ -115,21 +135,41 @@ struct Outside<'words> {
 fn before_command<'words, R: Files<File = File> + AllocGlobal + Eprint>(
     rt: &R,
     words: &'words [String],
-) -> Result<(Outside<'words>, &'words [String]), u8> {
+) -> Result<(Outside, &'words [String]), u8> {
     let before = Before::read(words).map_err(|fault| refuse_words(rt, fault))?;
     if let Some(path) = before.status {
         check_status(rt, path)?;
     }
     let files = NodeFiles {
-        status: before.status,
-        group: before.group,
+        status: owned(rt, before.status)?,
+        group: owned(rt, before.group)?,
     };
     let count = before.count.min(words.len());
     let words = words.split_at(count).1;
     let command = words.first().map_or("", String::as_str);
     let (edge, text) = edge_of(rt, &before, command)?;
-    let text = text.filter(|_| is_running(command));
-    Ok((Outside { edge, files, text }, words))
+    let (text, names) = match text.filter(|_| is_running(command)) {
+        Some(named) => (Some(named.text), Some(named.names)),
+        None => (None, None),
+    };
+    let outside = Outside {
+        edge,
+        files,
+        text,
+        names,
+    };
+    Ok((outside, words))
+}
+
+/// A copy of a path, where there is one; or the status to end with.
+fn owned(rt: &impl AllocGlobal, path: Option<&str>) -> Result<Option<String>, u8> {
+    match path {
+        Some(path) => match String::from_str(rt.alloc(), path) {
+            Ok(path) => Ok(Some(path)),
+            Err(_) => Err(NO_MEMORY),
+        },
+        None => Ok(None),
+    }
 }
 
 /// Whether the status can be put into a file of that path, where nothing but a file is replaced; or the status to end with.

@@ -15,18 +15,18 @@ pub struct Text {
 /// A source that gives what another one gives, while that is a text that was read before. Where a byte differs, or one of the two is longer, the
 /// read fails and a line on standard error says so. Without such a text it gives what the other one gives. It tells nothing.
 #[derive(Drop)]
-pub struct SameText<'text, S: Source + Drop, E: Eprint + Drop> {
+pub struct SameText<S: Source + Drop, E: Eprint + Drop> {
     source: S,
     errors: E,
-    text: Option<&'text Text>,
+    text: Option<Text>,
     /// How many bytes of the text were read.
     count: usize,
     faults: u64,
 }
 
-impl<'text, S: Source + Drop, E: Eprint + Drop> SameText<'text, S, E> {
+impl<S: Source + Drop, E: Eprint + Drop> SameText<S, E> {
     /// A source over this one, which is at its beginning.
-    pub fn new(source: S, errors: E, text: Option<&'text Text>) -> SameText<'text, S, E> {
+    pub fn new(source: S, errors: E, text: Option<Text>) -> SameText<S, E> {
         SameText {
             source,
             errors,
@@ -57,7 +57,7 @@ impl<'text, S: Source + Drop, E: Eprint + Drop> SameText<'text, S, E> {
     fn goes_on(&mut self, bytes: &[u8]) -> bool
         ensures kept { self.new.faults ≡ self.old.faults }
     {
-        let Some(text) = self.text else {
+        let Some(text) = &self.text else {
             return true;
         };
         let past = self.count.min(text.bytes.len());
@@ -74,7 +74,7 @@ impl<'text, S: Source + Drop, E: Eprint + Drop> SameText<'text, S, E> {
     }
 }
 
-impl<'text, S: Source + Drop, E: Eprint + Drop> Source for SameText<'text, S, E> {
+impl<S: Source + Drop, E: Eprint + Drop> Source for SameText<S, E> {
     ghost use Rattle.std.specs.Prelude.{◌≡◌, ◌<◌, [], None, OnErr, take};
     ghost use Rattle.std.specs.Io.KnownBytes.{IsAtEnd, prepend_known};
     ghost use Rattle.qn_io.specs.Outside.{HasRisen};
