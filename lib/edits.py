@@ -9,9 +9,10 @@ import gatecosts
 
 TOP = pathlib.Path(__file__).resolve().parent.parent
 FOLDER = TOP / "tests" / "edits"
-DAYS = 14
+DAYS = 28
 SMALL = 200  # seconds
-MOST = 8  # edits of a crate on one day
+LARGE = 300  # seconds of the proof alone
+MOST = 4  # edits of a crate on one day
 
 Part = collections.namedtuple("Part", "crate number count")  # the edits of a crate that are tried on one day, of so many such parts
 
@@ -57,12 +58,12 @@ def seconds_of_part(part, kept):
 
 
 def groups():
-    """The parts of the edits of the crates that are not small in fourteen groups, one for each day of two weeks, that take much the same time: each part,
-    the dearest first, goes to the group that is the cheapest so far."""
+    """The parts of the edits of the crates that are neither small nor too large for a merge in as many groups as there are days in four weeks, that take
+    much the same time: each part, the dearest first, goes to the group that is the cheapest so far."""
     kept = kept_seconds()
     days, spent = [[] for _ in range(DAYS)], [0] * DAYS
-    large = [part for crate in crates() if not is_small(crate) for part in parts_of(crate)]
-    for part in sorted(large, key=lambda part: (-seconds_of_part(part, kept), part)):
+    by_date = [part for crate in crates() if not is_small(crate) and not is_large(crate, kept) for part in parts_of(crate)]
+    for part in sorted(by_date, key=lambda part: (-seconds_of_part(part, kept), part)):
         day = min(range(DAYS), key=lambda day: (spent[day], len(days[day])))
         days[day].append(part)
         spent[day] += seconds_of_part(part, kept)
@@ -94,6 +95,11 @@ def is_small(crate):
     """Whether the edits of a crate take so little that they are tried after each change below it, and so need no day."""
     kept = kept_seconds()
     return crate in kept and seconds_of(crate, kept) <= SMALL
+
+
+def is_large(crate, kept):
+    """Whether the proof before the edits of a crate takes so long that they are tried where it changed, and each day beside the gate, but by no date."""
+    return crate in kept and kept[crate].proof > LARGE
 
 
 def digest(crate):

@@ -1,4 +1,4 @@
-# tests/edits: the edits of a crate are tried once in two weeks, at most eight of it on a day, and those of each crate that was changed since they were refused, of a small one also those
+# tests/edits: the edits of a crate are tried once in four weeks, at most four of it on a day, and those of each crate that was changed since they were refused, of a small one also those
 # of one that stands on a changed crate; one that is not refused, or is a bad one, fails. And each edit of this repository can be applied: its texts
 # stand once in its file.
 . "$TOP/tests/expect.sh"
@@ -42,28 +42,24 @@ wanted=$kept
 [ "$of_day" = none ] || wanted=$(printf './%s/must-fail/%s.edit\n' "$of_day" a "$of_day" b "two" kept | LC_ALL=C sort | tr '\n' ' ')
 same "$(copies)" "$wanted"
 clone/tests/edits/back
-# each crate once in two weeks, three of them on three days and fifteen on fourteen, and dear ones apart
+# each crate once in four weeks, three of them on three days, and one whose proof is dear on none
 days='import datetime, edits
-days = [edits.parts_of_day(datetime.date(2026, 12, 30) + datetime.timedelta(day)) for day in range(28)]
-print(sorted(sorted("%s%d" % part[:2] for part in parts) for parts in days[:14] if parts), days[14:] == days[:14])'
+days = [edits.parts_of_day(datetime.date(2026, 12, 30) + datetime.timedelta(day)) for day in range(56)]
+print(sorted(sorted("%s%d" % part[:2] for part in parts) for parts in days[:28] if parts), days[28:] == days[:28])'
 same "$(PYTHONPATH=clone/lib python3 -B -c "$days")" "[['one0'], ['three0'], ['two0']] True"
-mkdir clone/tests/edits/{a,b,c,d,e,f,g,h,i,j,k,l}
-letters="['b0'], ['c0'], ['d0'], ['e0'], ['f0'], ['g0'], ['h0'], ['i0'], ['j0'], ['k0'], ['l0'], ['one0'], ['three0']"
-same "$(PYTHONPATH=clone/lib python3 -B -c "$days")" "[['a0', 'two0'], $letters] True"
 mkdir clone/bench
-echo 'a 290 10 1 0 2' > clone/bench/seconds
-same "$(PYTHONPATH=clone/lib python3 -B -c "$days")" "[['a0'], ['b0', 'two0'], ${letters#*, }] True"
+echo 'two 301 10 1 0 2' > clone/bench/seconds
+same "$(PYTHONPATH=clone/lib python3 -B -c "$days")" "[['one0'], ['three0']] True"
 rm clone/bench/seconds
-rmdir clone/tests/edits/{a,b,c,d,e,f,g,h,i,j,k,l}
-# of nine edits of a crate five are tried on one day and four on another, and the crate is then not kept as tried
+# of nine edits of a crate three are tried on each of three days, and the crate is then not kept as tried
 for edit in c d e f g h i; do touch clone/tests/edits/one/$edit.edit; done
-same "$(PYTHONPATH=clone/lib python3 -B -c "$days")" "[['one0'], ['one1'], ['three0'], ['two0']] True"
+same "$(PYTHONPATH=clone/lib python3 -B -c "$days")" "[['one0'], ['one1'], ['one2'], ['three0'], ['two0']] True"
 part='import edits
 print([" ".join(edit.stem for edit in edits.edits_in(part)) for part in edits.parts_of("one")])'
-same "$(PYTHONPATH=clone/lib python3 -B -c "$part")" "['a c e g i', 'b d f h']"
+same "$(PYTHONPATH=clone/lib python3 -B -c "$part")" "['a d g', 'b e h', 'c f i']"
 mkdir clone/crates/one/must-fail
-cp clone/tests/edits/one/[bdfh].edit clone/crates/one/must-fail
-for edit in b d f h; do echo "rt: must-fail one/$edit.edit: refused, as it must be: src/lib.rt:1:1: error"; done > log
+cp clone/tests/edits/one/[beh].edit clone/crates/one/must-fail
+for edit in b e h; do echo "rt: must-fail one/$edit.edit: refused, as it must be: src/lib.rt:1:1: error"; done > log
 before=$(cat clone/tests/edits/one/tried)
 clone/tests/edits/back log
 same "$(cat clone/tests/edits/one/tried)" "$before"
