@@ -33,7 +33,7 @@ refused '"--json" is not taken; usage: list --image PATH [--json]' list --json -
 refused '"0" is not taken; usage: wait --image PATH --id 1..4294967295' wait --id 0 --image d
 refused '--feed-delay is missing; usage: timing --watchdog 1..3600000 --loop 1..3600000 --read-limit 1..3600000 --feed-delay 1..3600000 [--disk 1..3600000]' \
     timing --watchdog 1 --loop 1 --read-limit 1
-usage='usage: status [--json|--prometheus|--watch] [--image PATH] FILE..'
+usage='usage: status [--json|--prometheus|--watch] [--image PATH] [FILE..]'
 refused "no node was started on this host since its boot: systemctl status 'quorumd@*'" status
 refused "no node was started on this host since its boot: systemctl status 'quorumd@*'" status --image disk --json
 refused "\"--xml\" is not taken; $usage" status --xml file
