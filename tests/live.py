@@ -77,7 +77,9 @@ def milliseconds():
 
 
 def free_ports(count):
-    """The first of so many UDP ports of 127.0.0.1 that nobody uses."""
+    """The first of so many UDP ports of 127.0.0.1 that nobody uses. A cluster has 33 of them, those of 32 ranks and of an arbiter: to each a node of one
+    host tells how it is."""
+    count = max(count, 33)
     for attempt in range(2000):
         first = 20000 + (os.getpid() * 7 + attempt * 13) % 10000
         sockets = []

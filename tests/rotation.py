@@ -14,7 +14,7 @@ def announced(run):
     views = []
     for line in run.answer.read_text().splitlines():
         words = line.split()
-        if words[0] == "send" and words[2].startswith("514e04"):
+        if words[0] == "send" and words[2][:6] in ("514e04", "514e0b"):
             packet = bytes.fromhex(words[2])
             mask = int.from_bytes(packet[12:16], "big")
             members = [ident for ident in IDS if mask >> (ident - 1) & 1]

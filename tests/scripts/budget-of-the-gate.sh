@@ -37,16 +37,11 @@ longest chain: 60 minutes: one two'
 mkdir clone/crates/three/must-fail
 touch clone/crates/three/must-fail/a.edit clone/crates/three/must-fail/b.edit
 estimated '100 minutes on two processors, 100 on four: 0'
-# tried by date, they count the same, wherever their copies stand
 mkdir -p clone/tests/edits/three
 cp clone/crates/three/must-fail/*.edit clone/tests/edits/three
-estimated '100 minutes on two processors, 100 on four: 0'
 rm -r clone/crates/three/must-fail
-estimated '100 minutes on two processors, 100 on four: 0'
-# the edits of another crate of that kind are tried on another day
-mkdir clone/tests/edits/two
-touch clone/tests/edits/two/c.edit
-estimated '100 minutes on two processors, 100 on four: 0'
+# those of a crate whose proof is dear are tried by no date
+estimated '60 minutes on two processors, 60 on four: 0'
 rm -r clone/tests/edits
 
 # functions that doubled, proofs that doubled, neither, and a new crate
