@@ -50,7 +50,8 @@ def a_comment():
 def other_votes():
     cluster = SealedCluster("votes")
     nodes = [cluster.sealed(1, "conf", SEAL_MEANING), cluster.sealed(2, "commented", SEAL_MEANING), cluster.sealed(3, "votes", SEAL_MEANING)]
-    same("node 3", nodes[2].end(), (13, "fault SelfReset reset\n"))
+    status, said = nodes[2].end()
+    same("node 3", (status, said.splitlines()[-1]), (13, "fault SelfReset reset"))
     nodes[0].waits_for("start: ok")
     same("they see two", nodes[1].runs(), True)
 
