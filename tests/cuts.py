@@ -20,6 +20,15 @@ RULES = """table inet cuts {
 """
 
 
+def is_bound(udp, port):
+    """Whether a socket could be bound to that port of this host."""
+    try:
+        udp.bind(("127.0.0.1", port))
+    except OSError:
+        return False
+    return True
+
+
 class Firewall:
     """Drops packets by their two ports, in a network namespace of its own."""
 
@@ -40,7 +49,7 @@ class Firewall:
     def say(ports, sender, receiver, packet):
         """A packet to a node as from another one, which does not run."""
         with socket.socket(socket.AF_INET, socket.SOCK_DGRAM) as stranger:
-            stranger.bind(("127.0.0.1", ports[sender] + sender))
+            wait_for("the port of a node that ended is free", lambda: is_bound(stranger, ports[sender] + sender))
             stranger.sendto(packet, ("127.0.0.1", ports[receiver] + receiver))
 
     def set(self, ports, ways, is_cut):
