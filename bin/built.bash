@@ -1,4 +1,4 @@
-# For bin/quorumd, bin/quorumctl, bench/qn_soak_nodes and the programs that bench times: starts the program $name of the repository $top with the words
+# For bin/quorumd, bin/quorumctl, bench/qn_soak_nodes and bench/qn_tests: starts the program $name of the repository $top with the words
 # of the script, which is called $said where it is not bin/$name. It takes the program that was proved and built here, unless a source has changed
 # since; else the one of release/, if it was proved from these very sources; else it starts nothing, says what can be done, and ends with 1. Nothing
 # is proved unasked: the word --build-only proves and builds the program here and ends. After the word --released the program of release/ is started,
@@ -14,7 +14,7 @@ said=${said-bin/$name}
 is_current() {
     [ -x "$1" ] || return 1
     [ -z "$(find "$top/crates.txt" "$top/crates" "$folder" \( -name '*.rt' -o -name '*.antt' -o -name crates.txt -o -name '*.rt.txt' -o -name '*.antt.txt' \
-        -o -path "$top/simulator/crates" \) -not -path '*/out/*' -newer "$1" -print -quit)" ]
+        -o -path "$folder/crates" \) -not -path '*/out/*' -newer "$1" -print -quit)" ]
 }
 
 # unpacks the released program into the new folder $1, says once where it was proved, and puts it in its place, the file $2. It is then older than a
@@ -66,7 +66,7 @@ needed() {
             for (i = 2; i <= count; i++) take(words[i])
         }
         /^[^#]/ { crate = $1; sub(/:$/, "", crate); line[crate] = $0 }
-        END { take(program) }' "$top/crates.txt" "$top/simulator/crates"
+        END { take(program) }' "$top/crates.txt" "$top/tests/program/crates" "$top/simulator/crates"
 }
 
 # makes the folder $1, a repository of what the program is proved from

@@ -7,7 +7,7 @@ _quorumd_takes() {
     case $* in
     quorumd)
         commands=(count replay status soak create dump list message node migrate replay3 node3 replay-arbiter node-logged audit node3-logged arbiter help)
-        options=(--links/file/--links --key/file/ --open//--open --seal-meaning//--seal-meaning --halt/file/--halt --status/file/--status --leave-file/file/--leave-file --group/file/--group --blank//--blank --anew//--anew)
+        options=(--links/file/--links --key/file/ --open//--open --seal-meaning//--seal-meaning --halt/file/--halt --status/file/--status --leave-file/file/--leave-file --standing-file/file/--standing-file --group/file/--group --blank//--blank --anew//--anew)
         ;;
     'quorumd status')
         options=('--form/words text json/--form')
@@ -49,7 +49,7 @@ _quorumd_takes() {
         options=(--port/none/--port --turns/none/--turns)
         ;;
     quorumctl)
-        commands=(settings timing watchdog check list wait status history group)
+        commands=(settings timing watchdog check list wait status history standby unstandby fit move group)
         ;;
     'quorumctl timing')
         options=(--watchdog/none/--watchdog --loop/none/--loop --read-limit/none/--read-limit --feed-delay/none/--feed-delay --disk/none/--disk)
@@ -73,6 +73,18 @@ _quorumd_takes() {
         ;;
     'quorumctl history')
         operands=('file*')
+        ;;
+    'quorumctl standby')
+        options=(--node/none/--node --yes//--yes)
+        ;;
+    'quorumctl unstandby')
+        options=(--node/none/--node)
+        ;;
+    'quorumctl fit')
+        options=(--node/none/--node)
+        ;;
+    'quorumctl move')
+        options=(--node/none/--node '--yes//--yes --off' '--off//--off --yes')
         ;;
     quorumd-setup)
         operands=(file)

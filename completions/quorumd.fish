@@ -9,7 +9,7 @@ function __quorumd_takes
     switch "$argv"
         case quorumd
             set -g __quorumd_commands 'count	which of several views has the majority' 'replay	what a cluster does, event by event' 'status	how each node stands after a schedule' 'soak	what so many events, drawn from a seed, come to' 'create	makes the disk image of a cluster' 'dump	the header of an image' 'list	the nodes of an image, with their messages' 'message	leaves a message to a node' 'node	runs a node of the cluster' 'migrate	brings an image of version 1 to version 2' 'replay3	what a cluster does on three images, event by event' 'node3	runs a node of the cluster on three images' 'replay-arbiter	what a cluster does beside an arbiter, event by event' 'node-logged	the same as node, with a line for each of its calls' 'audit	whether the record of a node is a run of it' 'node3-logged	the same as node3, with a line for each of its calls' 'arbiter	answers the nodes of the cluster, as its quorum device' 'help	the names of the commands'
-            set -g __quorumd_options --links/file/--links/CONF --key/file//FILE --open//--open/ --seal-meaning//--seal-meaning/ --halt/file/--halt/FILE --status/file/--status/FILE --leave-file/file/--leave-file/FILE --group/file/--group/FILE --blank//--blank/ --anew//--anew/
+            set -g __quorumd_options --links/file/--links/CONF --key/file//FILE --open//--open/ --seal-meaning//--seal-meaning/ --halt/file/--halt/FILE --status/file/--status/FILE --leave-file/file/--leave-file/FILE --standing-file/file/--standing-file/FILE --group/file/--group/FILE --blank//--blank/ --anew//--anew/
         case 'quorumd status'
             set -g __quorumd_options '--form/words text json/--form/text|json'
         case 'quorumd soak'
@@ -37,7 +37,7 @@ function __quorumd_takes
         case 'quorumd arbiter'
             set -g __quorumd_options --port/none/--port/1024..65000 --turns/none/--turns/1..9223372036854775808
         case quorumctl
-            set -g __quorumd_commands 'settings	what is read of a corosync.conf, and what of it is risky or wrong' 'timing	the least safe msgwait for these times, and how long a take-over takes on which disk' 'watchdog	what the kernel says of a watchdog, and whether a node may arm it' 'check	what is wrong with an image, and whether it fits a corosync.conf' 'list	the nodes of an image, with their messages' 'wait	returns when the message to a node was read, or msgwait has passed' 'status	what the status files of the nodes of this host come to; without FILE those in /run/quorumd' 'history	what the journals of the nodes tell, in the order of time' 'group	what is to be done to the resources of a host, event by event, for its supervisor'
+            set -g __quorumd_commands 'settings	what is read of a corosync.conf, and what of it is risky or wrong' 'timing	the least safe msgwait for these times, and how long a take-over takes on which disk' 'watchdog	what the kernel says of a watchdog, and whether a node may arm it' 'check	what is wrong with an image, and whether it fits a corosync.conf' 'list	the nodes of an image, with their messages' 'wait	returns when the message to a node was read, or msgwait has passed' 'status	what the status files of the nodes of this host come to; without FILE those in /run/quorumd' 'history	what the journals of the nodes tell, in the order of time' 'standby	the node of this host never holds the resource, from now on and after each boot' 'unstandby	it may hold it again' 'fit	it may hold it again, after a start that failed for good' 'move	the resource moves to the node of this host; with --off it is asked for no more' 'group	what is to be done to the resources of a host, event by event, for its supervisor'
         case 'quorumctl timing'
             set -g __quorumd_options --watchdog/none/--watchdog/1..3600000 --loop/none/--loop/1..3600000 --read-limit/none/--read-limit/1..3600000 --feed-delay/none/--feed-delay/1..3600000 --disk/none/--disk/1..3600000
         case 'quorumctl watchdog'
@@ -54,6 +54,14 @@ function __quorumd_takes
             set -g __quorumd_options '--json//--json --prometheus --watch/' '--prometheus//--prometheus --json --watch/' '--watch//--watch --json --prometheus/' --image/image/--image/PATH
         case 'quorumctl history'
             set -g __quorumd_operands 'file*'
+        case 'quorumctl standby'
+            set -g __quorumd_options --node/none/--node/NODE --yes//--yes/
+        case 'quorumctl unstandby'
+            set -g __quorumd_options --node/none/--node/NODE
+        case 'quorumctl fit'
+            set -g __quorumd_options --node/none/--node/NODE
+        case 'quorumctl move'
+            set -g __quorumd_options --node/none/--node/NODE '--yes//--yes --off/' '--off//--off --yes/'
         case quorumd-setup
             set -g __quorumd_operands file
             set -g __quorumd_options '--image/image/--image --arbiter/IMAGE[,IMAGE,IMAGE]' '--arbiter//--arbiter --image/' '--key/file/--key --no-key/FILE' '--no-key//--no-key --key/' --id/none/--id/N --watchdog/file/--watchdog/DEVICE --port/none/--port/Q --create//--create/

@@ -7,11 +7,13 @@ agent.sock       the node: a line `start` or `stop`, answered `ok` or `no WORD`.
 group.sock       operators: `move`, `maintenance on`, `maintenance off`
 started          is there while the node holds: made before the first start, and removed before a stop is answered `ok`
 leave            why the node is to leave: `move`, or a resource and what it failed at
+standing-ID      the words of the node's host, which the node reads: `fit no` after a start that failed for good; one program writes at a time (standing.lock)
 failures         a line for each failure that was counted: milliseconds since the boot, resource, what it failed at
 start-PID        a start of an agent that is under way: its session, and when that began
 resources.conf   what was started, which is stopped also where the file was changed since
 resource.json    how the resources stand, at each change and each second; group.word the same in two words, for the node
 """
+import fcntl
 import glob
 import json
 import os
@@ -33,6 +35,8 @@ LONGEST_LOOP = 3600000  # milliseconds
 TOLD = 1000  # milliseconds after which how it stands is written again
 # How long the answer to a stop is kept back where nothing is held and something may run: at the opening of a node, which has armed nothing yet and asks once.
 OPENING = 15.0
+# How long a node that was said to be unfit is waited for: it goes on where no other one can hold, and is then to leave as after any other failure.
+UNFIT = float(os.environ.get("QUORUMD_UNFIT", "60"))
 
 
 def say(level, text):
@@ -83,6 +87,35 @@ def lines_of(path):
             return file.read().splitlines()
     except OSError:
         return []
+
+
+def shown_nodes():
+    """What the nodes of this host show of themselves."""
+    for path in glob.glob(RUN + "/node-*.json"):
+        try:
+            with open(path) as file:
+                shown = json.load(file)
+        except (OSError, ValueError):
+            continue
+        if isinstance(shown, dict):
+            yield shown
+
+
+def can_be_relieved(shown):
+    """Whether a node runs whose view has another member, and names who may start."""
+    loop, tick, view = shown.get("loop"), shown.get("tick"), shown.get("view")
+    if not (isinstance(loop, int) and isinstance(tick, int) and isinstance(view, dict)) or shown.get("end") is not None:
+        return False
+    return 0 <= now() - tick <= 3 * loop + 1000 and view.get("candidate") is not None and len(view.get("members", [])) > 1
+
+
+def put_word(ident, word, value):
+    """Writes a word into those of a node, whose others stay."""
+    path = "%s/standing-%d" % (RUN, ident)
+    with open(RUN + "/standing.lock", "w") as lock:
+        fcntl.flock(lock, fcntl.LOCK_EX)
+        others = [line for line in lines_of(path) if line.split(" ")[0] != word]
+        write(path, "".join(line + "\n" for line in ["%s %s" % (word, value), *others]))
 
 
 class Step:
@@ -208,6 +241,7 @@ class Supervisor:
         self.resources = self.first_resources(is_held)
         self.actions, self.waiting, self.turn, self.written, self.shown, self.unwritten = {}, [], None, 0, None, None
         self.refused = None  # why a start was refused
+        self.unfit_since = None  # when the node was said to be unfit, while it holds
         self.earlier = earlier_starts()
         self.begin_step(is_held)
         if is_held and is_there(LEAVE):
@@ -277,7 +311,34 @@ class Supervisor:
             say(4, "%s: %s" % (LEAVE, error.strerror))
 
     def leave(self):
-        """All are down, and the node is to leave: by the unit that does so."""
+        """All are down, and the node is to leave. Where a start failed for good and another node can hold, it is unfit in place of that."""
+        why = " ".join(lines_of(LEAVE))
+        if not self.refused and why.partition(" ")[2].startswith("start") and self.say_unfit():
+            self.unfit_since = time.monotonic()
+            say(4, "all are down: this node is unfit (%s). Mend it; quorumctl fit" % why)
+        else:
+            self.hand_over()
+
+    @staticmethod
+    def say_unfit():
+        """Says of the node of this host that it may not hold now, where another one can; whether that was said."""
+        for shown in shown_nodes():
+            if can_be_relieved(shown):
+                try:
+                    put_word(shown["id"], "fit", "no")
+                    return True
+                except (OSError, KeyError, TypeError) as error:
+                    say(4, "the node is not said to be unfit: %s" % error)
+        return False
+
+    def end_of_patience(self):
+        """A node that is unfit, and holds on, is to leave."""
+        if self.unfit_since is not None and time.monotonic() - self.unfit_since > UNFIT:
+            self.unfit_since = None
+            self.hand_over()
+
+    def hand_over(self):
+        """The node is to leave: by the unit that does so."""
         is_move = lines_of(LEAVE) == ["move"]
         say(4, "all are down: this node is to leave%s" % ("" if is_move else " (%s)" % " ".join(lines_of(LEAVE))))
         unit = "quorumd-move.service" if is_move else "quorumd-handover.service"
@@ -328,7 +389,7 @@ class Supervisor:
         if answer == "ok":
             remove(HELD)
             remove(LEAVE)
-            self.is_held, self.refused = False, None
+            self.is_held, self.refused, self.unfit_since = False, None, None
         return answer
 
     def ends(self):
@@ -338,23 +399,20 @@ class Supervisor:
             if outcome is None:
                 continue
             del self.actions[at]
-            name, verb = self.resources[at].name, action.verb
+            name, verb, phase = self.resources[at].name, action.verb, self.step.phases[at]
             if action.is_late:
                 say(4, "%s: %s did not end within %d s" % (name, verb, (action.end - action.begun) // 1000))
             elif action.is_killed:
                 say(5, "%s: %s is called off" % (name, verb))
             elif outcome not in (OK, NOT_RUNNING) or verb == "stop":
                 say(5 if outcome == OK else 4, "%s: %s says %s after %.1f s" % (name, verb, outcome, (now() - action.begun) / 1000))
-            self.event("ended %d %s %s" % (at, verb, outcome), "%s says %s" % (verb, outcome))
+            before = "start: " if phase == "checking" else ""
+            self.event("ended %d %s %s" % (at, verb, outcome), "%s%s says %s" % (before, verb, outcome))
 
     def tell_loop(self):
         """How often the node asks, by its status file."""
-        for path in glob.glob(RUN + "/node-*.json"):
-            try:
-                with open(path) as file:
-                    turn = json.load(file).get("loop")
-            except (OSError, ValueError):
-                continue
+        for shown in shown_nodes():
+            turn = shown.get("loop")
             if isinstance(turn, int) and 0 < turn <= LONGEST_LOOP and turn != self.turn:
                 self.turn = turn
                 self.step.write("loop %d" % turn)
@@ -442,6 +500,7 @@ class Supervisor:
             return
         self.ends()
         self.event("tick %d" % now())
+        self.end_of_patience()
         self.answer_waiting()
         self.tell()
 

@@ -16,17 +16,18 @@ class OnOne:
         self.parts = {}
 
     def call(self, line):
-        """The calls on one image that end with this call on three."""
+        """The calls on one image that end with this call on three; before them `image N ok`, or `failed`, says what it came to on which image."""
         words = line.split(" ")
         if words[0] not in ("read", "write"):
             return [line]
         place, sector = divmod(int(words[1]), IMAGE)
         self.parts[place] = words[2:]
+        came = "image %d %s" % (place + 1, "failed" if words[-1] == "failed" else "ok")
         asked = self.good if words[0] == "read" and sector == self.mailbox else [True] * 3
         if place != max(image for image in range(3) if asked[image]):
-            return []
+            return [came]
         parts, self.parts = self.parts, {}
-        return ["%s %d %s" % (words[0], sector, self.written(sector, parts) if words[0] == "write" else self.read(sector, parts))]
+        return [came, "%s %d %s" % (words[0], sector, self.written(sector, parts) if words[0] == "write" else self.read(sector, parts))]
 
     def written(self, sector, parts):
         """A write is done where it was on two images; the own mailbox is read from then on where it was."""

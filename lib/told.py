@@ -108,6 +108,7 @@ class Told:
         self.word, self.pulls_since, self.before_tick = SILENT, None, 0  # what this host says of the node, and since when it pulls
         self.hellos, self.seen = {}, set()
         self.late, self.refused = Seldom(), Seldom()
+        self.lost, self.told_lost = [False] * 3, [False] * 3  # of three images, of which the last call failed, and of which that was told
         self.before = self.standing()
 
     def say(self, level, event, *words):
@@ -122,7 +123,7 @@ class Told:
         if turn.received is None:
             return self.looked(None)
         packet = packet_of(turn.received)
-        if packet is None or packet[0] in (12, 13):
+        if packet is None:
             self.refused.untold += 1
         elif packet[0] in (3, 8):
             self.greeted = packet[1]
@@ -315,6 +316,7 @@ class Told:
         self.holds = self.holds or "start" in words
         self.tell_mail(kind, given)
         self.tell_peers()
+        self.tell_image()
         self.tell_changes(kind, given, turn.calls)
         self.tell_seldom()
         for call in turn.calls:
@@ -348,6 +350,14 @@ class Told:
             if ident in self.seen and self.tick - self.hellos[ident] > 3 * self.loop:
                 self.seen.remove(ident)
                 self.say(WARNING, "peer-lost", "id=%d" % ident, "silent=%d" % (self.tick - self.hellos[ident]))
+
+    def tell_image(self):
+        """Of one image a turn, the first of which there is news."""
+        for place, lost in enumerate(self.lost):
+            if lost != self.told_lost[place]:
+                self.told_lost[place] = lost
+                self.say(WARNING if lost else NOTICE, "image-lost" if lost else "image-back", "image=%d" % (place + 1))
+                return
 
     def tell_changes(self, kind, given, calls):
         before, after = self.before, self.standing()
@@ -415,6 +425,8 @@ class Told:
             self.waits_stopped = ok
         if call[0] == "feed" and not ok:
             self.late.untold += 1
+        if call[0] == "image":
+            self.lost[int(call[1]) - 1] = not ok
         if call[0] in ("read", "write"):
             self.waits_disk = self.answer_of(call)
 

@@ -1,5 +1,15 @@
-# For simulator/into and simulator/from: the crates of this folder, and the same in the repository $folder that simulator/into makes.
-crates=$(sed -n 's/^\([a-z_]*\):.*/\1/p' "$top/simulator/crates")
+# For simulator/into and simulator/from: the crates of this folder and of tests/program, which are proved at no merge, and the same in the repository
+# $folder that simulator/into makes.
+lines=("$top/tests/program/crates" "$top/simulator/crates")
+crates=$(cat -- "${lines[@]}" | sed -n 's/^\([a-z_]*\):.*/\1/p')
+
+# home_of CRATE: the folder of a crate of these
+home_of() {
+    local file
+    for file in "${lines[@]}"; do
+        ! grep -q "^$1:" "$file" || printf '%s/%s\n' "${file%/crates}" "$1"
+    done
+}
 
 # takes the folder that is the one word $@, or says what is wrong with the words, and the usage
 take_folder() {
@@ -20,7 +30,7 @@ wrong_words() {
     exit 2
 }
 
-# the sum of the simulator's files in $folder, by their paths and contents
+# the sum of the files of these crates in $folder, by their paths and contents
 sum_of_copies() {
     (cd -- "$folder/crates" && find $crates -name out -prune -o -type f -print0 | LC_ALL=C sort -z | xargs -0 sha256sum -b | sha256sum -b)
 }

@@ -3,6 +3,7 @@ import copy
 import json
 import os
 import pathlib
+import re
 import subprocess
 import time
 
@@ -69,6 +70,15 @@ def quorumctl(*words, **more):
 
 def status(*words):
     return quorumctl("status", *words)
+
+
+def object_of(path):
+    """What `status --json` shows of a file: the object of its node, without what is said of its age."""
+    shown = status("--json", path)[1]
+    whole = re.fullmatch(r'\{"nodes":\[(\{.*\})\],"said":"[^"]*","state":"[a-z ]*"\}\n', shown)
+    if not whole:
+        return shown
+    return re.sub(r'"stale":(true|false),', "", re.sub(r'^\{"age":\d+,', "{", whole[1]))
 
 
 def same(got, wanted, what):

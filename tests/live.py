@@ -71,30 +71,50 @@ def in_namespace(tried):
     return False
 
 
+def in_package_folders():
+    """Whether the script has /run/quorumd and /var/lib/quorumd to itself: it is started again in a name space of mounts, as root or as a user of a name space of its own, where
+    there is such a one."""
+    if INSIDE in os.environ:
+        return True
+    made = "mount -t tmpfs none /run && mount -t tmpfs none /var/lib && mkdir /run/quorumd /var/lib/quorumd"
+    for words in "-m", "-rm":
+        if subprocess.run(["unshare", words, "sh", "-c", made], capture_output=True, check=False).returncode == 0:
+            os.environ[INSIDE] = "yes"
+            os.execvp("unshare", ["unshare", words, "sh", "-c", made + ' && exec "$@"', "sh", sys.executable, "-B", *sys.argv])
+    print("skipped: no name space of mounts is to be had here")
+    return False
+
+
 def milliseconds():
     """The time of the clock that nodes read too."""
     return time.clock_gettime_ns(time.CLOCK_MONOTONIC_RAW) // 1000000
 
 
+def used_ports():
+    """The UDP ports that sockets of this host use."""
+    tables = [path.read_text().splitlines()[1:] for path in map(pathlib.Path, ("/proc/net/udp", "/proc/net/udp6")) if path.exists()]
+    return {int(line.split()[1].rpartition(":")[2], 16) for lines in tables for line in lines}
+
+
 def free_ports(count):
     """The first of so many UDP ports of 127.0.0.1 that nobody uses. A cluster has 33 of them, those of 32 ranks and of an arbiter: to each a node of one
-    host tells how it is."""
+    host tells how it is. No UDP socket is opened: a program that another thread starts at that moment has it too until it begins, and a node would find its port in use."""
     count = max(count, 33)
     for attempt in range(2000):
         first = 20000 + (os.getpid() * 7 + attempt * 13) % 10000
+        ports = range(first, first + count)
+        if not used_ports().isdisjoint(ports):
+            continue
         sockets = []
         try:
-            for port in range(first, first + count):
-                for kind in (socket.SOCK_STREAM, socket.SOCK_DGRAM):
-                    sockets.append(socket.socket(socket.AF_INET, kind))
-                    sockets[-1].bind(("127.0.0.1", port))
+            for port in ports:
+                sockets.append(socket.socket(socket.AF_INET, socket.SOCK_STREAM))
+                sockets[-1].bind(("127.0.0.1", port))
         except OSError:
             for each in sockets:
                 each.close()
             continue
-        for each in sockets[1::2]:
-            each.close()
-        RESERVED.extend(sockets[::2])
+        RESERVED.extend(sockets)
         return first
     raise Wrong("no %d free ports" % count)
 
@@ -114,7 +134,7 @@ def shown(path):
     """A path as the line of an opening has it."""
     escaped = b""
     for byte in path.encode():
-        one = bytes([byte]) if byte > 32 and byte not in b'"=\x7f' else b"%%%02X" % byte
+        one = bytes([byte]) if byte > 32 and byte not in b'"%=\x7f' else b"%%%02X" % byte
         if len(escaped) + (4 if byte >= 192 else len(one)) > MOST_OF_A_PATH:
             break
         escaped += one

@@ -1,4 +1,4 @@
-"""The rows of runs of a node in crates/qn_tests/stdin. Recorded runs are played again by the second program (tests/noderuns.py), each over its own
+"""The rows of runs of a node in tests/program/qn_tests/stdin. Recorded runs are played again by the second program (tests/noderuns.py), each over its own
 outside: what the node says and does is of the rule of this release, whatever the record has."""
 import hashlib
 import pathlib

@@ -1,5 +1,5 @@
 """A second program of a running node, written from docs/dev/NODE.md, docs/dev/VIEWS.md, docs/dev/PACKETS.md and docs/dev/LIVE.md alone: the calls that a node makes
-over an outside, as `node-logged` writes them, and how its run ends. The rows of runs in crates/qn_tests/stdin are made by it."""
+over an outside, as `node-logged` writes them, and how its run ends. The rows of runs in tests/program/qn_tests/stdin are made by it."""
 from collections import namedtuple
 
 import nodebytes

@@ -19,16 +19,16 @@ limited() {
         < "$input" > got 2> errors || status=$?
 }
 
-# to_the_least WORD..: moves the limit, up to 64 kilobytes, below the least under which the program begins; there the system
+# to_the_least WORD..: moves the limit, up to 16 kilobytes, below the least under which the program begins; there the system
 # cannot load it
 to_the_least() {
     limit=1024
     limited "$@"
     until [ "$status" = 11 ] || [ "$status" = 0 ]; do
-        limit=$((limit + 64))
+        limit=$((limit + 16))
         limited "$@"
     done
-    limit=$((limit - 64))
+    limit=$((limit - 16))
 }
 
 wrong() {

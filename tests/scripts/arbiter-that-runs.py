@@ -89,16 +89,22 @@ def nobody_else_is_answered():
     same("of an address of no node, and a reply", wait_for("what was refused", lambda: arbiter.status()["refused"]), 2)
 
 
-def under_a_key():
-    port = free_ports(SEATS)
-    folder = pathlib.Path("keys")
+def with_a_key(name, conf):
+    """A new key in a folder of that name beside the text, and the words that name both."""
+    folder = pathlib.Path(name)
     folder.mkdir()
     key = folder / "key"
     key.write_bytes(os.urandom(64))
     key.chmod(0o600)
-    conf = conf_of(host="127.0.2.9", address="127.0.2.%d")
     (folder / "conf").write_text(conf)
-    arbiter = Arbiter("sealed", conf, port, before=("--links", str(folder / "conf"), "--key", str(key)))
+    return key, ("--links", str(folder / "conf"), "--key", str(key))
+
+
+def under_a_key():
+    port = free_ports(SEATS)
+    conf = conf_of(host="127.0.2.9", address="127.0.2.%d")
+    key, with_key = with_a_key("keys", conf)
+    arbiter = Arbiter("sealed", conf, port, before=with_key)
     arbiter.opened()
     secret, text = hashlib.sha256(key.read_bytes()).digest(), hashlib.sha256(conf.encode()).digest()
     node = socket.socket(socket.AF_INET, socket.SOCK_DGRAM)
@@ -123,14 +129,9 @@ def under_a_key():
 def with_the_meaning():
     """It is asked beside the bytes of its text, and answers beside what that says."""
     port = free_ports(SEATS)
-    folder = pathlib.Path("meaning")
-    folder.mkdir()
-    key = folder / "key"
-    key.write_bytes(os.urandom(64))
-    key.chmod(0o600)
     conf = conf_of(host="127.0.2.9", address="127.0.2.%d")
-    (folder / "conf").write_text(conf)
-    Arbiter("means", conf, port, before=("--links", str(folder / "conf"), "--key", str(key), SEAL_MEANING)).opened()
+    key, with_key = with_a_key("meaning", conf)
+    Arbiter("means", conf, port, before=(*with_key, SEAL_MEANING)).opened()
     nodes = node_bytes(1, "127.0.2.1") + node_bytes(2, "127.0.2.2")
     device = bytes([1]) + fields((4, 1), (8, TIMEOUT)) + bytes([1]) + address("127.0.2.9") + bytes(2)
     said = b"QNTEXT01" + bytes([2]) + nodes + bytes(3) + fields((8, 10000), (8, 3)) + device + bytes(1)

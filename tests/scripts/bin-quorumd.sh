@@ -44,12 +44,12 @@ same "$status $(cat "$here/said")" '8 fault EnvFault'
 # a repository where the command rt is another one, which takes three seconds: where nothing was built, and there is no release, nothing is begun
 # unasked, and a line says what to call
 cd "$here"
-mkdir -p new/bin new/release new/simulator new/crates/quorumd/src new/crates/quorumd/out new/crates/low/src new/crates/low/must-fail new/crates/apart/src rt-bin
+mkdir -p new/bin new/release new/simulator new/tests/program new/crates/quorumd/src new/crates/quorumd/out new/crates/low/src new/crates/low/must-fail new/crates/apart/src rt-bin
 cp "$TOP/bin/quorumd" "$TOP/bin/built.bash" new/bin
 cp "$TOP/release/sums.bash" new/release
 cp "$TOP"/simulator/{into,copies.bash} new/simulator
 cp "$TOP/HANDLES" new
-touch new/simulator/crates
+touch new/simulator/crates new/tests/program/crates
 printf '# NAME: what it uses\nlow: arrayvec\napart: low\nquorumd: low\n' > new/crates.txt
 touch new/crates/quorumd/src/main.rt new/crates/low/src/lib.rt new/crates/low/must-fail/one.edit new/crates/apart/src/main.rt
 cat > rt-bin/rt << 'RT'

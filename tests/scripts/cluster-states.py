@@ -6,7 +6,7 @@ import re
 import shutil
 import subprocess
 
-from clusterfiles import TOP, holder, node, same, status, written
+from clusterfiles import LOOP, TOP, holder, node, same, status, written
 
 try:
     from jsonschema import Draft202012Validator
@@ -19,6 +19,9 @@ BOOTING = {**OFF, "phase": "booting", "incarnation": None, "mail": "unread", "ma
 ALONE = {"quorate": False, "votes": 1, "view": {"id": 2, "members": [3]}, "why": "not-quorate:1/2"}
 PAIR = {"votes": 2, "view": {"id": 2, "members": [2, 3]}}
 NAMING = {"id": 2, "members": [1, 2, 3], "candidate": 1}
+YES = {"address": "10.0.0.9:7432", "age": 400, "answer": "yes", "no": 1, "polls": 90, "refused": 0, "yes": 80}
+NONE = {**YES, "age": 200900, "answer": "none"}
+CUT = [{"hello_tick": -200, "id": 2}, {"hello_tick": -200, "id": 3, "network_down": 1}]
 OLD = {"tick": -3 * 60000 - 2000}  # three loops and two seconds
 
 WHYS = ["down", "no-view", "wait-for-all", "not-quorate:1/2", "not-chosen:1", "not-chosen:0", "held-by:2", "unheard:2", "unfenced:2:unwritten",
@@ -121,10 +124,33 @@ STATES = [
     ([holder(1), holder(2, **OLD), node(3)], 1, "1 holds; 2 silent for S s; 2 tells nothing"),
     ([holder(1, phase="dying", quorate=False, votes=1, mail="reset", why="down"), holder(2, **PAIR), node(3, **PAIR)], 2,
      "TWO HOLDERS: 1, 2 (by their own word)"),
+    # what a node lost of its images, its networks and its arbiter
+    ([holder(1, images=2), node(2), node(3)], 1, "1 holds; 1 runs on 2 of 3 images"),
+    ([holder(1, images=2), node(2, images=1), node(3)], 1, "1 holds; 1 runs on 2 of 3 images; 2 runs on 1 of 3 images"),
+    ([node(1, images=2), node(2), node(3)], 2, "1 runs on 2 of 3 images"),
+    ([holder(1, peers=CUT), node(2), node(3)], 1, "1 holds; network 1 to 3 is down"),
+    ([holder(1, arbiter=YES), node(2), node(3)], 0, "1 holds (no group)"),
+    ([holder(1, arbiter={**YES, "answer": "no"}), node(2), node(3)], 0, "1 holds (no group)"),
+    ([holder(1, arbiter={**NONE, "age": 3 * LOOP}), node(2), node(3)], 0, "1 holds (no group)"),
+    ([holder(1, arbiter={**NONE, "age": 3 * LOOP + 1}), node(2), node(3)], 1, "1 holds; device silent for 180 s"),
+    ([holder(1, arbiter={**YES, "age": 3 * LOOP + 1}), node(2), node(3)], 0, "1 holds (no group)"),
+    ([holder(1), node(2, arbiter={**NONE, "refused": 340}), node(3)], 1,
+     "1 holds; device silent for 200 s (340 packets refused: another key or text)"),
+    ([holder(1, arbiter=NONE, images=2, mail="exit", peers=CUT), node(2), node(3)], 1,
+     "1 holds; 1 has mail exit; 1 runs on 2 of 3 images; network 1 to 3 is down; device silent for 200 s"),
+    ([holder(1), node(2), holder(3, **OLD, images=2, arbiter=NONE)], 1, "1 holds; 3 silent for S s; 3 tells nothing"),
     # nothing is known
     ([holder(1, **OLD), node(2, **OLD)], 3, "no node answers"),
     ([holder(1, tick=1000000)], 3, "no node answers"),
     ([node(1, **OFF, end="left clean")], 3, "no node answers"),
+]
+
+
+LINES = [  # the arbiter of a node, and the line that says what it answers
+    (YES, "      device 10.0.0.9:7432 answers yes, 0.4 s ago"),
+    ({**YES, "address": None, "answer": "no", "age": 0, "refused": 1}, "      device answers no, 0.0 s ago"),
+    ({**NONE, "refused": 340}, "      device 10.0.0.9:7432 answers none, 200.9 s ago (340 packets refused: another key or text)"),
+    ({**NONE, "age": 2000, "refused": 340}, "      device 10.0.0.9:7432 answers none, 2.0 s ago"),
 ]
 
 
@@ -150,7 +176,7 @@ def schema():
 
 def try_state(judge, nodes, wanted, said):
     ended, text, errors = status(*written(nodes))
-    first = re.sub(r"silent for [0-9.]+ s", "silent for S s", text.splitlines()[0])
+    first = re.sub(r"([0-9] silent for) [0-9.]+ s", r"\1 S s", text.splitlines()[0])
     line = said if said.startswith("TWO HOLDERS") else ": ".join(filter(None, (WORDS[wanted], said)))
     same((ended, first, errors), (wanted, "quorumd " + line, ""), "the status of %r" % nodes)
     ended, text, _ = status("--json", *written(nodes))
@@ -162,6 +188,12 @@ def try_state(judge, nodes, wanted, said):
     ended, text, _ = status("--prometheus", *written(nodes))
     same((ended, text.splitlines()[-1]), (wanted, "quorumd_state %d" % wanted), "the metrics of %r" % nodes)
     return text
+
+
+def try_lines():
+    for arbiter, line in LINES:
+        text = status(*written([holder(1, arbiter=arbiter), node(2), node(3)]))[1]
+        same([one for one in text.splitlines() if "device" in one[:12]], [line], "the line of %r" % arbiter)
 
 
 def try_metrics(text):
@@ -178,6 +210,7 @@ def main():
         Draft202012Validator.check_schema(schema())
         judge = Draft202012Validator(schema())
     metrics = [try_state(judge, *state) for state in STATES]
+    try_lines()
     if has_promtool:
         for text in (metrics[0], metrics[-1], metrics[STATES.index(next(state for state in STATES if state[0][-1]["incarnation"] is None))]):
             try_metrics(text)

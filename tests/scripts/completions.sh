@@ -66,7 +66,7 @@ offers '' x
 expect 0 "commands $commands\\n" help
 
 # the words before the command, and what follows them
-offers '--links --key --open --seal-meaning --halt --status --leave-file --group --blank --anew' -
+offers '--links --key --open --seal-meaning --halt --status --leave-file --standing-file --group --blank --anew' -
 offers '--links --leave-file' --l
 offers "$commands" --open ''
 offers --key --open --k
@@ -163,13 +163,13 @@ while IFS='>' read -r line offered; do
 done << END
 quorumd ;> $commands
 quorumd st;> status
-quorumd --;> --links --key --open --seal-meaning --halt --status --leave-file --group --blank --anew
-quorumd --links files/other --open --key files/other --;> --key --seal-meaning --halt --status --leave-file --group --blank --anew
+quorumd --;> --links --key --open --seal-meaning --halt --status --leave-file --standing-file --group --blank --anew
+quorumd --links files/other --open --key files/other --;> --key --seal-meaning --halt --status --leave-file --standing-file --group --blank --anew
 quorumd --status files/other status --;> --form
 quorumd audit --images ;> 1 3
 quorumd message --kind off --;> --image --id
 quorumd dump --image files/di;> disk disk.old
-quorumctl ;> settings timing watchdog check list wait status history group
+quorumctl ;> settings timing watchdog check list wait status history standby unstandby fit move group
 quorumctl status --json --;> --image
 quorumctl status files/;> disk disk.old folder other
 quorumd-setup files/other --key files/other --;> --image --arbiter --id --watchdog --port --create

@@ -9,7 +9,7 @@ expect 0 "quorumd $version\\n" --version <&-
 same "$(head -n 1 text)" "quorumd $version: one member of a high-availability cluster"
 same "commands $(sed -n 's/^quorumd \([a-z][a-z0-9-]*\).*/\1/p' text | xargs)" "$("$QUORUMD" help)"
 same "$(tail -n 1 text)" 'quorumd --help | -h | --version'
-same "$(grep -c '^quorumd \[--links CONF\] .*\[--open\] \[--seal-meaning\] \[--halt FILE\] \[--status FILE\] \[--leave-file FILE\] \[--group FILE\] \[--blank\] \[--anew\] COMMAND' text)" 1
+same "$(grep -c '^quorumd \[--links CONF\] .*\[--open\] \[--seal-meaning\] \[--halt FILE\] \[--status FILE\] \[--leave-file FILE\] \[--standing-file FILE\] \[--group FILE\] \[--blank\] \[--anew\] COMMAND' text)" 1
 same "$(grep -c '^    [a-z]' text)" "$("$QUORUMD" help | wc -w | awk '{ print $1 - 1 }')"
 
 # the options of each command, as the manual page has them

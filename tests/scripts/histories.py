@@ -19,6 +19,8 @@ TOLD = [
     ("peer-lost", "id=1 silent=3016", "node 3 hears node 1 no more"),
     ("device", "answer=no view=7", "the arbiter answered node 3 no in view 7"),
     ("device-silent", "age=10013", "node 3 hears nothing of its arbiter, for 10013 ms"),
+    ("image-lost", "image=2", "node 3 lost image 2"),
+    ("image-back", "image=2", "node 3 has image 2 again"),
     ("fence-written", "of=1 ok=yes msgwait=10000", "node 3 fenced node 1: reset written, ok=yes, msgwait 10000 ms"),
     ("fence-written", "of=1 ok=no msgwait=10000", "node 3 fenced node 1: reset written, ok=no, msgwait 10000 ms"),
     ("licence", "of=2 by=clean-slot", "node 3 read node 2 as cleanly stopped"),

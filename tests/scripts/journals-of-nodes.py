@@ -64,11 +64,6 @@ class RecordedCluster(Records, Cluster):
 class CutRecords(Records, CutCluster):
     ids = (1, 2, 3)
 
-    def judged(self, node, more=()):
-        """Without the refusals of what the relay passes on of ports that no node of the cluster has: a node of one host tells 32 of them how it is."""
-        wanted, got = super().judged(node, more)
-        return wanted, [line for line in got if "event=packets-refused" not in line]
-
 
 def tells_the_same(cluster, *nodes, more=()):
     """Each of these has ended."""

@@ -23,7 +23,7 @@ REFUSED = [
 def said_of(lines):
     """What layers.py says of these lines of crates.txt in the place of those that stand there, of layers that a crate is never on."""
     with tempfile.TemporaryDirectory() as folder:
-        for name in ("docs", "simulator"):
+        for name in ("docs", "simulator", "tests"):
             os.symlink(TOP / name, os.path.join(folder, name))
         pathlib.Path(folder, "crates.txt").write_text("".join(lines))
         done = subprocess.run([sys.executable, "-B", TOP / "tests" / "scripts" / "layers.py"], env=dict(os.environ, TOP=folder), stdout=subprocess.PIPE, text=True)

@@ -1,18 +1,19 @@
-"""No crate cites the proofs of another one, and each names every library of its line in crates.txt. crates.txt stands in layers, with that of
-simulator/crates behind them, each crate on crates that stand before it there; docs/dev/ARCHITECTURE.md has the same layers with the same crates, and what
-each stands on: a row names crates of its line, and the others of that line stand below those. What a layer says that it is never on, no crate of it
-stands on, not even through other crates, but for those that it names. crates/README.md is that map in short: after the word --write it is written."""
+"""No crate cites the proofs of another one, and each names every library of its line in crates.txt. crates.txt stands in layers, with the lines of
+tests/program/crates and simulator/crates behind them, each crate on crates that stand before it there; docs/ARCHITECTURE.md has the same layers with the
+same crates, and what each stands on: a row names crates of its line, and the others of that line stand below those. What a layer says that it is never
+on, no crate of it stands on, not even through other crates, but for those that it names. crates/README.md is that map in short: after the word --write
+it is written."""
 import re
 import sys
 
-from cratefiles import LINES, TOP, files_of
+from cratefiles import APART, LINES, TOP, files_of
 
 LAYER = re.compile(r"# ([A-Z][\w ]*): (.*)")
 NEVER = re.compile(r"; never on ([\w ,]+?)(?: but through ([\w ]+))?$")
 MAP = """# The crates
 
 For whoever opens this folder: which crate does what, from below upward. A crate stands on crates of its own layer and of those above it on this page.
-[The map](../docs/dev/ARCHITECTURE.md#layers-and-crates) says what each promises and what it stands on.
+[The map](../docs/ARCHITECTURE.md#layers-and-crates) says what each promises and what it stands on.
 
 From a rule of a page to what says it and what does it:
 
@@ -49,7 +50,7 @@ def layers_of_crates():
 
 def layers_of_page():
     """The layers of the page: of each its name, what it speaks of, and its crates, each with the cells of its row."""
-    part = (TOP / "docs" / "dev" / "ARCHITECTURE.md").read_text().split("\n## Layers and crates\n")[1].split("\n### Crates with one user\n")[0]
+    part = (TOP / "docs" / "ARCHITECTURE.md").read_text().split("\n## Layers and crates\n")[1].split("\n### Crates with one user\n")[0]
     layers = []
     for text in part.split("\n### ")[1:]:
         rows = [[cell.strip() for cell in line.strip("|").split("|")] for line in text.splitlines() if line.startswith("| `")]
@@ -71,9 +72,9 @@ def look_at_layers(page):
     if [(name, of, [*crates]) for name, of, crates in page] != layers_of_crates():
         for there, here in zip(layers_of_crates(), page):
             if there != (here[0], here[1], [*here[2]]):
-                wrong.append("docs/dev/ARCHITECTURE.md has the layer %s (%s) with %s, and crates.txt %s (%s) with %s" % (
+                wrong.append("docs/ARCHITECTURE.md has the layer %s (%s) with %s, and crates.txt %s (%s) with %s" % (
                     here[0], here[1], " ".join(here[2]), there[0], there[1], " ".join(there[2])))
-        wrong.append("the layers of crates.txt and of docs/dev/ARCHITECTURE.md are not the same ones")
+        wrong.append("the layers of crates.txt and of docs/ARCHITECTURE.md are not the same ones")
 
 
 def through(crate, uses, passed):
@@ -120,9 +121,9 @@ def look_at_rows(uses, rows):
     for crate in uses.keys() & rows.keys():
         named = set(re.findall(r"`(\w+)`", rows[crate][-1]))
         for other in sorted(named - uses[crate]):
-            wrong.append("docs/dev/ARCHITECTURE.md says that %s stands on %s, and crates.txt does not" % (crate, other))
+            wrong.append("docs/ARCHITECTURE.md says that %s stands on %s, and crates.txt does not" % (crate, other))
         for other in sorted(uses[crate] - below(named & uses.keys(), uses)):
-            wrong.append("docs/dev/ARCHITECTURE.md does not say that %s stands on %s" % (crate, other))
+            wrong.append("docs/ARCHITECTURE.md does not say that %s stands on %s" % (crate, other))
 
 
 def sources_of(crate):
@@ -143,12 +144,17 @@ def look_at_sources(libraries):
                     wrong.append("%s:%d cites the proofs of %s" % (file.relative_to(TOP), number, other))
 
 
+def link_to(crate):
+    """The folder of a crate, from crates/."""
+    return next(("../%s/%s" % (folder, crate) for folder in APART if (TOP / folder / crate).exists()), crate)
+
+
 def map_of(page):
     """The text of crates/README.md: the crates by layer, each with what it is for."""
     lines = [MAP]
     for name, of, crates in page:
         lines += ["\n## %s\n\nSpeaks of %s.\n\n| Crate | What it is for |\n|---|---|" % (name, of)]
-        lines += ["| [`%s`](%s) | %s |" % (crate, crate if (TOP / "crates" / crate).exists() else "../simulator/" + crate, row[1]) for crate, row in crates.items()]
+        lines += ["| [`%s`](%s) | %s |" % (crate, link_to(crate), row[1]) for crate, row in crates.items()]
     return "\n".join(lines) + "\n"
 
 
@@ -157,7 +163,7 @@ def look_at_map(page):
     if "--write" in sys.argv[1:]:
         file.write_text(map_of(page))
     elif not file.exists() or file.read_text() != map_of(page):
-        wrong.append("crates/README.md is not that of docs/dev/ARCHITECTURE.md: layers.py --write writes it")
+        wrong.append("crates/README.md is not that of docs/ARCHITECTURE.md: layers.py --write writes it")
 
 
 libraries = lines_of_crates()

@@ -43,6 +43,22 @@ checked() {
 touch run/leave-2 run/leaving-2
 checked 0 ''
 [ ! -e run/leave-2 ] && [ ! -e run/leaving-2 ]
+same "$(cat run/standing-2)" ''
+
+# the words of a host: a standby is remembered over a start, and the weight stays; that the node was unfit, or asked for, ends. A start that is refused changes nothing
+printf 'pull on\nfit no\nweight 12\nstandby off\n' > run/standing-2
+echo 'standby on' > state/standby-2
+checked 1 'node 2 is not started: no such image: none' IMAGE=none
+same "$(xargs < run/standing-2)" 'pull on fit no weight 12 standby off'
+checked 0 ''
+same "$(xargs < run/standing-2)" 'standby on weight 12'
+echo 'standby off' > state/standby-2
+checked 0 ''
+same "$(xargs < run/standing-2)" 'standby off weight 12'
+echo 'standby maybe' > state/standby-2
+checked 0 ''
+same "$(xargs < run/standing-2)" 'weight 12'
+rm state/standby-2 run/standing-2
 no='node 2 is not started:'
 checked 0 ''
 checked 0 '' IMAGE=large

@@ -1,7 +1,9 @@
 """Nodes on three images, of which one is lost, before the start or while they run: they start, are fed, take over and leave as ever. With two
 lost a boot ends, and a node that runs is fed no more."""
+import json
 import os
 import random
+import subprocess
 import time
 
 from live import Cluster, TripleCluster, Wrong, as_nobody, milliseconds, same, try_all, wait_for
@@ -28,6 +30,41 @@ def overwritten(image):
 def in_place_of_a_folder(image):
     image.unlink()
     image.mkdir()
+
+
+class ShownCluster(TripleCluster):
+    """The same, whose node keeps a status file."""
+
+    def with_a_node(self):
+        return self.node(1, before=("--status", str(self.folder / "status.1.json")))
+
+    def images_of(self):
+        """On how many images its node runs, as its status file says it; 3 where that says nothing."""
+        return json.loads((self.folder / "status.1.json").read_text()).get("images", 3)
+
+    def verdict(self):
+        done = subprocess.run([os.environ["QUORUMCTL"], "status", self.folder / "status.1.json"], stdout=subprocess.PIPE, check=False, text=True)
+        return done.returncode, done.stdout.splitlines()[0]
+
+
+def news(node):
+    """Of which images a node told that they are lost, or back."""
+    return [(event["event"], event["image"]) for event in node.events("image-lost", "image-back")]
+
+
+def tells_what_is_lost():
+    """Of an image that cannot be opened, and where none is lost: what the journal, the status file and the verdict say."""
+    cluster = ShownCluster("told-before", ids=(1,))
+    in_place_of_a_folder(cluster.images[0])
+    node = cluster.with_a_node()
+    node.waits_for("start: ok")
+    wait_for("it tells of image 1", lambda: news(node) == [("image-lost", "1")])
+    wait_for("its status file says so", lambda: cluster.images_of() == 2)
+    same("the verdict", cluster.verdict(), (1, "quorumd degraded: 1 holds; 1 runs on 2 of 3 images"))
+    cluster = ShownCluster("told-none", ids=(1,))
+    node = cluster.with_a_node()
+    node.waits_for("start: ok")
+    same("with three images", (news(node), cluster.images_of(), cluster.verdict()), ([], 3, (0, "quorumd healthy: 1 holds (no group)")))
 
 
 def others(cluster, lost):
@@ -200,6 +237,6 @@ def one_image_with_commas():
     same("answer", node.end(), (0, "turns 40 up holds=yes quorate=yes 1/1 why=holding\n"))
 
 
-try_all(before_the_start, a_folder_before_the_start, while_it_runs, takes_over, a_message_on_one_image, two_lost_before_the_start,
+try_all(tells_what_is_lost, before_the_start, a_folder_before_the_start, while_it_runs, takes_over, a_message_on_one_image, two_lost_before_the_start,
         headers_that_differ, two_lost_while_it_runs, one_image_with_commas)
 try_all(no_rights)

@@ -7,6 +7,7 @@ import signal
 import subprocess
 import time
 
+from clusterfiles import object_of
 from live import Cluster, Wrong, same, try_all, wait_for
 
 QUORUMCTL = os.environ["QUORUMCTL"]
@@ -52,6 +53,11 @@ def row(lines, ident):
     return next(line.split() for line in lines if line.split()[0] == str(ident))
 
 
+def is_shown_whole(path):
+    """`status --json` shows each key of a file that a node has written last, byte for byte."""
+    same("what is shown of %s" % path, object_of(path) + "\n", pathlib.Path(path).read_text())
+
+
 def life_of_a_cluster():
     cluster = Cluster("status")
     nodes = {ident: started(cluster, ident) for ident in IDS}
@@ -70,9 +76,11 @@ def life_of_a_cluster():
     lines = comes_to(cluster, 1, "quorumd degraded: 2 holds; 2 does not see 1; 3 does not see 1; 1 silent for ")
     same("the take-over", [row(lines, ident)[1:3] for ident in IDS], [["silent", "?"], ["up", "yes"], ["up", "no"]])
     nodes[1].kill()
+    is_shown_whole(status_file(cluster, 1))
     # the new holder leaves, and the third one alone has no quorum
     cluster.message(2, "exit")
     same("node 2", nodes[2].end(), (0, "left clean\n"))
+    is_shown_whole(status_file(cluster, 2))
     lines = comes_to(cluster, 1, "owner not known: 1, 2 tells nothing; ", "3 not quorate")
     same("what blocks node 3", row(lines, 3)[-1], "not-quorate:1/2")
     same("a node that left", row(lines, 2)[1:5], ["ended", "?", "no", "0/2"])

@@ -27,7 +27,7 @@ PACKAGES = {"jq": "jq", "xxd": "xxd", "flock": "util-linux"}
 NEW_FOLDER = 'cd "$(mktemp -d)" && ln -s "$OLDPWD"/* .'
 # what a clone has at its top and the package in /usr/share/quorumd: the examples of all pages but those for whoever changes the program use nothing else
 PACKED = ("README.md", "contrib", "docs", "examples", "lib")
-OF_SOURCES = {"docs/dev/ARCHITECTURE.md", "docs/dev/CHANGING.md", "docs/dev/PACKETS.md", "docs/dev/PROVED.md", "bench/README.md"}
+OF_SOURCES = {"docs/ARCHITECTURE.md", "docs/dev/CHANGING.md", "docs/dev/PACKETS.md", "docs/PROVED.md", "bench/README.md"}
 wrong = []
 
 

@@ -1,4 +1,4 @@
-"""docs/dev/PROVED.md binds. Each name stands in the sources of its crate. A row about a command names clauses of `top`, and fields of the record of that command; a
+"""docs/PROVED.md binds. Each name stands in the sources of its crate. A row about a command names clauses of `top`, and fields of the record of that command; a
 row by crate public functions and types, and clauses of those very functions. And each function of the rows by crate runs: the program, its companion or a test
 calls it, or it stands on another one of its row that they call."""
 import functools
@@ -7,7 +7,7 @@ import sys
 
 from cratefiles import LINES, TOP, files_of
 
-PAGE = (TOP / "docs" / "dev" / "PROVED.md").read_text()
+PAGE = (TOP / "docs" / "PROVED.md").read_text()
 wrong = []
 
 
@@ -33,7 +33,7 @@ def look(crate, text, cell):
     for name in re.findall(r"`([\w:.]+)`", cell):
         known = name in ("requires", "specs") or name.startswith("qn_")
         if not known and not all(is_there(text, part) for part in name.split(".")):
-            wrong.append("docs/dev/PROVED.md names `%s`, which is not in crates/%s" % (name, crate))
+            wrong.append("docs/PROVED.md names `%s`, which is not in crates/%s" % (name, crate))
 
 
 def records_of(text):
@@ -51,7 +51,7 @@ def look_at_field(records, name):
     """A name with a point: a record, and a field of that very record."""
     record, field = name.split(".")
     if field not in records.get(record, {}):
-        wrong.append("docs/dev/PROVED.md names `%s`, and %s has no such field" % (name, record))
+        wrong.append("docs/PROVED.md names `%s`, and %s has no such field" % (name, record))
 
 
 def fields_of(records, names):
@@ -67,7 +67,7 @@ def look_at_command(records, clauses, cells):
         if "." in name:
             look_at_field(records, name)
         elif name not in rows_own | clauses | records.keys():
-            wrong.append("docs/dev/PROVED.md names `%s` of `%s`: no clause of `top`, and no field of that record" % (name, cells[0]))
+            wrong.append("docs/PROVED.md names `%s` of `%s`: no clause of `top`, and no field of that record" % (name, cells[0]))
 
 
 @functools.cache
@@ -172,7 +172,7 @@ def look_at_use(crates, cell):
     run = {name for name in method if "law_" in name or is_called(crates, name, method[name])}
     for name in method:
         if name not in run and not any(calls(body(own, name), other, method[other]) for other in run):
-            wrong.append("docs/dev/PROVED.md names `%s` of %s, which neither the program nor a test calls" % (name, crates[0]))
+            wrong.append("docs/PROVED.md names `%s` of %s, which neither the program nor a test calls" % (name, crates[0]))
 
 
 FIELDS = re.compile(r"the fields? ((?:`\w+`(?:, | and )?)+) of `(\w+)`")
@@ -191,11 +191,11 @@ def look_at_clauses(crates, row):
     functions = [name for name in re.findall(r"`([\w:]+)`", named) if name.split("::")[-1] in contracts(text)]
     for name in functions:
         if not ("law_" in name or "private" in row[1] or crates[0] in INSIDE or name.split("::")[-1] in public(text)):
-            wrong.append("docs/dev/PROVED.md names `%s` of %s, which is not public" % (name, crates[0]))
+            wrong.append("docs/PROVED.md names `%s` of %s, which is not public" % (name, crates[0]))
     own = set().union(*(clauses_of(text, name) for name in re.findall(r"`([\w:]+)`", " ".join(row[1:]))))
     for name in re.findall(r"`(\w+)`", "".join(said)):
         if name not in own and name not in contracts(text):
-            wrong.append("docs/dev/PROVED.md names the clause `%s` of %s, which no function of its row has: %s" % (name, crates[0], row[-1]))
+            wrong.append("docs/PROVED.md names the clause `%s` of %s, which no function of its row has: %s" % (name, crates[0], row[-1]))
 
 
 libraries = {}
@@ -218,7 +218,7 @@ for row in rows("Crate by crate"):
 formats = (TOP / "docs" / "dev" / "FORMATS.md").read_text().split("\n## Fault lines and statuses\n")[1].split("\n## ")[0]
 for status in re.findall(r"(?m)^\| (\d+) \|", formats):
     if status not in [row[0] for row in rows("Exit statuses")]:
-        wrong.append("docs/dev/PROVED.md has no row for the status %s" % status)
+        wrong.append("docs/PROVED.md has no row for the status %s" % status)
 
 print("\n".join(wrong))
 sys.exit(1 if wrong else 0)

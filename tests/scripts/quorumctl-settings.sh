@@ -53,6 +53,28 @@ warned "$two" 'warning: 2 votes can fall into halves: there is neither a device 
 warned "${one}quorum {\ntwo_nodes: 1\n}\n" 'warning: the key "two_nodes" is not known\n'
 warned 'nodelist {\nnodes: 1\nnode {\nnodeid: 1\nvotes: 1\nring0_addr: a\n}\n}\ntotem {\nnode: 1\n}\nquorum {\nprovider: corosync_votequorum\n}\n' 'warning: the key "nodes" is not known\nwarning: the key "votes" is not known\n'
 
+# three 'LINES' 'LINES' 'LINES': a text of three nodes, with these lines in their sections
+three() {
+    printf 'nodelist {\\nnode {\\nnodeid: 1\\n%s}\\nnode {\\nnodeid: 2\\n%s}\\nnode {\\nnodeid: 3\\n%s}\\n}\\n%s' "$@" "$provider"
+}
+
+# who may hold: a witness, and standbys without which nobody may; words of them at fault, with their lines
+flags 0 "$(three 'standby: yes\n' 'location_score: 254\nstandby: no\n' 'location_score: 0\n')" 'two_node off by default\nwait_for_all off by default\nlast_man_standing off by default\nauto_tie_breaker off by default
+device none\nlast_man_standing_window 10000\nexpected_votes 3 by the sum\nquorum 2\n'
+warned "$(three 'standby: yes\nquorum_votes: 3\n' '' '')" 'warning: no majority is without node 1, which is a standby\n'
+flags 0 "$(three 'standby: yes\nquorum_votes: 2\n' 'quorum_votes: 2\n' '')" 'two_node off by default\nwait_for_all off by default\nlast_man_standing off by default\nauto_tie_breaker off by default
+device none\nlast_man_standing_window 10000\nexpected_votes 5 by the sum\nquorum 3\n'
+warned "$(three 'standby: yes\n' 'standby: yes\n' 'standby: yes\n')" 'warning: each node is a standby: nobody may hold\n'
+warned "$(three 'standby: yes\nquorum_votes: 3\n' 'standby: yes\n' 'standby: yes\n')" 'warning: no majority is without node 1, which is a standby\nwarning: each node is a standby: nobody may hold\n'
+told 3 "$(three '' 'standby: maybe\n' '')" 'fault: BadConf BadNumber key standby\nline 7: standby: maybe\n'
+told 3 "$(three 'location_score: 255\n' 'location_score: 9\n' '')" 'fault: BadConf BadNumber key location_score\nline 4: location_score: 255\nline 8: location_score: 9\n'
+told 3 "$(three '' '' 'location_score: x\nstandby:\n')" 'fault: BadConf BadNumber key standby\nline 11: standby:\n'
+
+# names that cannot be shown
+warned "$(three 'name: a\n' 'name: b\n' 'name: a\n')" 'warning: the name of node 1 is that of another node too: its id is shown\nwarning: the name of node 3 is that of another node too: its id is shown\n'
+long=$(printf 'n%.0s' {1..64})
+warned "$(three "name: $long\n" "name: ${long%n}\n" '')" 'warning: the name of node 1 has not 1 to 63 bytes: its id is shown\n'
+
 # the arbiter of a device: where it is, and its times; and what nobody reads of it
 device='quorum {\nprovider: corosync_votequorum\nexpected_votes: 3\n'
 flags 0 "${two}${device}device {\nmodel: net\nvotes: 1\nnet {\nhost: 192.0.2.9\nport: 7432\n}\n}\n}\n" 'two_node off by default\nwait_for_all off by default\nlast_man_standing off by default\nauto_tie_breaker off by default

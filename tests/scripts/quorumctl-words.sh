@@ -5,13 +5,13 @@ version=$(sed -n 's/^\.Os quorumd //p' "$TOP/man/quorumctl.8")
 same "$("$QUORUMCTL" --version)" "quorumctl $version"
 "$QUORUMCTL" --help > text
 "$QUORUMCTL" -h | cmp text -
-same "$(sed -n 's/^quorumctl \([a-z]*\).*/\1/p' text | xargs)" 'settings timing watchdog check list wait status history group'
+same "$(sed -n 's/^quorumctl \([a-z]*\).*/\1/p' text | xargs)" 'settings timing watchdog check list wait status history standby unstandby fit move group'
 
 # the options of each command, as the manual page has them
 options() {
     grep -o -- '--[a-z-]*' | sort | tr '\n' ' '
 }
-for command in settings timing watchdog check list wait status history group; do
+for command in settings timing watchdog check list wait status history standby unstandby fit move group; do
     page=$(awk -v wanted="$command" '/^\.Sh/ { inside = $2 == "SYNOPSIS" } inside && $1 == ".Cm" { found = $2 == wanted } inside && /^\.Fl -help/ { found = 0 } inside && found' "$TOP/man/quorumctl.8")
     same "$command $(sed -n "s/^quorumctl $command\( .*\)*\$/\1/p" text | options)" \
         "$command $(printf '%s\n' "$page" | sed -n 's/.*Fl \(-[a-z-]*\).*/-\1/p' | options)"
@@ -41,6 +41,16 @@ refused "\"--watch\" is not taken; $usage" status --json --watch file
 refused "\"--json\" is not taken; $usage" status --json file --json
 refused "a value is missing at the end, PATH; $usage" status file --image
 refused '"--json" is not taken; usage: history [FILE..]' history --json
+none="no node was started on this host since its boot: systemctl status 'quorumd@*'"
+for command in standby unstandby fit move 'move --off'; do
+    status=0
+    # shellcheck disable=SC2086
+    "$QUORUMCTL" $command > got 2> errors || status=$?
+    same "$status $(cat got errors)" "8 quorumctl: $none"
+done
+refused '"db2" is not taken; usage: standby [--node NODE] [--yes]' standby db2
+refused '"--off" is not taken; usage: move [--node NODE] [--yes|--off]' move --yes --off
+refused 'a value is missing at the end, NODE; usage: fit [--node NODE]' fit --node
 
 # the streams
 status=0
@@ -64,8 +74,10 @@ offers() {
     shift
     same "$*: $(bash offers.bash "$TOP/completions/quorumd.bash" "$@" | xargs)" "$*: $wanted"
 }
-offers 'settings timing watchdog check list wait status history group' ''
-offers 'settings status' s
+offers 'settings timing watchdog check list wait status history standby unstandby fit move group' ''
+offers 'settings status standby' s
+offers '--node --yes --off' move ''
+offers '--node' move --off -
 offers '--image --json' check ''
 offers '--json' list --image disk ''
 offers '--id' wait --image disk --

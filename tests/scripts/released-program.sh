@@ -5,9 +5,10 @@
 
 commands=$("$QUORUMD" help)
 here=$PWD
-mkdir -p first/bin first/bench first/release first/crates/quorumd/src first/crates/quorumctl/src first/simulator/qn_soak_nodes/src kit
+mkdir -p first/bin first/bench first/release first/crates/quorumd/src first/crates/quorumctl/src first/simulator/qn_soak_nodes/src \
+    first/tests/program/qn_tests/src kit
 cp "$TOP"/bin/{quorumd,quorumctl,built.bash} first/bin
-cp "$TOP/bench/qn_soak_nodes" first/bench
+cp "$TOP"/bench/{qn_soak_nodes,qn_tests} first/bench
 cp "$TOP"/simulator/{into,copies.bash} first/simulator
 cp "$TOP"/release/{make,check,sums.bash} first/release
 cp "$TOP/HANDLES" first
@@ -16,6 +17,8 @@ echo one > first/crates/quorumd/src/main.rt
 echo two > first/crates/quorumctl/src/main.rt
 echo 'qn_soak_nodes: arrayvec' > first/simulator/crates
 echo three > first/simulator/qn_soak_nodes/src/main.rt.txt
+echo 'qn_tests: arrayvec' > first/tests/program/crates
+echo four > first/tests/program/qn_tests/src/main.rt.txt
 cat > kit/rt << 'RT'
 #!/usr/bin/env bash
 case $1 in
@@ -27,6 +30,7 @@ case $1 in
         case $name in
             quorumd) cp "$QUORUMD" crates/quorumd/out/quorumd ;;
             quorumctl) cp "$QUORUMCTL" crates/quorumctl/out/quorumctl ;;
+            qn_tests) cp "$QUORUMD" crates/qn_tests/out/qn_tests ;;
             qn_soak_nodes)
                 printf '#!/usr/bin/env bash\n[ "$1 $2 $3 $4 $5 $6" = "1 1 2 1 quiet 0" ]\n' > crates/qn_soak_nodes/out/qn_soak_nodes
                 chmod +x crates/qn_soak_nodes/out/qn_soak_nodes
@@ -49,9 +53,10 @@ fresh() {
     (cd first && find . -name out -prune -o -type f -print0 | xargs -0 cp --parents -t "../$1")
 }
 
-# a release is made of what is built here, and it is that
+# a release is made of what is built here, and it is that; the rows of tests/program are proved too, and not released
 PATH=$with_kit first/release/make 2> errors
-same "$(xargs < calls)" 'quorumd quorumctl qn_soak_nodes'
+same "$(xargs < calls)" 'quorumd quorumctl qn_soak_nodes qn_tests'
+same "$(PATH=$without first/bench/qn_tests --program)" "$here/first/tests/program/out/qn_tests"
 same "$(cut -d ' ' -f 1 first/release/SUMS | xargs)" 'kit sources simulator quorumd quorumctl qn_soak_nodes'
 same "$(sed -n 's/^kit //p' first/release/SUMS)" a-kit
 same "$(sed -n 's/^quorumd //p' first/release/SUMS)" "$(sha256sum < "$QUORUMD" | cut -d ' ' -f 1)"
@@ -59,7 +64,7 @@ same "$(PATH=$with_kit first/release/check)" 'release: the programs that were pr
 cp first/release/SUMS sums
 PATH=$with_kit first/release/make 2> errors
 cmp sums first/release/SUMS
-same "$(wc -l < calls)" 3
+same "$(wc -l < calls)" 4
 
 # without the kit a clone answers within a second, and says once where its programs come from
 fresh clone
@@ -74,10 +79,10 @@ same "$(PATH=$without clone/bin/quorumctl --program)" "$here/clone/crates/quorum
 cmp clone/crates/quorumctl/out/released-quorumctl "$QUORUMCTL"
 same "$(PATH=$without clone/bench/qn_soak_nodes --program 2>&1)" "$here/clone/simulator/out/released-qn_soak_nodes"
 PATH=$without clone/bench/qn_soak_nodes 1 1 2 1 quiet 0
-same "$(wc -l < calls)" 3
+same "$(wc -l < calls)" 4
 # a change of the simulator is one of its program alone
 sleep 0.01
-echo four > clone/simulator/qn_soak_nodes/src/main.rt.txt
+echo five > clone/simulator/qn_soak_nodes/src/main.rt.txt
 status=0
 PATH=$without clone/bench/qn_soak_nodes --program > said 2> errors || status=$?
 same "$status $(cat said)" '1 '

@@ -209,6 +209,41 @@ def in_vain():
     one.end()
 
 
+def shows(members, candidate):
+    """The node of this host shows a view with these members, which names that one."""
+    tick = time.clock_gettime_ns(time.CLOCK_MONOTONIC_RAW) // 1000000
+    put(RUN / "node-2.json", json.dumps({"end": None, "id": 2, "loop": 3000, "tick": tick, "view": {"candidate": candidate, "id": 1, "members": members}}), 0o644)
+
+
+def unfit():
+    """After a start that failed for good a node is unfit in place of leaving, where its view has another member and names who may start; its other words stay. One that holds
+    on is to leave."""
+    ENVIRONMENT["QUORUMD_UNFIT"] = "3"
+    for members, candidate in ([2], 2), ([1, 2], None):
+        one = Running(("a", "start = 5"))
+        shows(members, candidate)
+        ask("start")
+        until(lambda: "quorumd-handover" in CALLS.read_text(), "the node is to leave")
+        assert not (RUN / "standing-2").exists()
+        one.end()
+    one = Running(("a", "start = 5"))
+    (RUN / "standing-2").write_text("weight 12\nfit yes\npull on\n")
+    shows([1, 2], 2)
+    ask("start")
+    until(lambda: "fit no" in (RUN / "standing-2").read_text(), "the node is unfit")
+    same((RUN / "standing-2").read_text(), "fit no\nweight 12\npull on\n")
+    one.until(state="down", goal="leave")
+    same((ask("stop"), CALLS.read_text()), ("ok", ""))
+    one.until(goal="rest", fine=True)
+    time.sleep(4)
+    same((CALLS.read_text(), (RUN / "standing-2").read_text()), ("", "fit no\nweight 12\npull on\n"))
+    shows([1, 2], 2)
+    ask("start")
+    until(lambda: "quorumd-handover" in CALLS.read_text(), "one that holds on is to leave")
+    same(acts(), ["start f-a", "stop f-a"] * 2)
+    one.end()
+
+
 def moves():
     """A move is refused where nothing is held, and in maintenance; it is no failure, and the goal outlives the supervisor."""
     one = Running(("a", "stops = 2"))
@@ -337,7 +372,7 @@ def one_unit():
     one.end()
 
 
-SCENES = (up_and_down, forgotten, failures, in_vain, moves, a_start_goes_on, gone_askers, files_that_cannot_be_written, file_at_fault, many_probes, one_unit)
+SCENES = (up_and_down, forgotten, failures, in_vain, unfit, moves, a_start_goes_on, gone_askers, files_that_cannot_be_written, file_at_fault, many_probes, one_unit)
 
 
 def play(scene):

@@ -9,8 +9,9 @@ import sys
 TOP = pathlib.Path(os.environ["TOP"])
 RUN, EQUAL = 9, 150  # a run has so many words at least; there are fewer runs than that
 BOOK, PAGE = 20000, 4500
-OPERATORS = [TOP / "README.md", *sorted(TOP.glob("docs/*.md"))]
-READ = [*OPERATORS, *sorted(TOP.glob("docs/dev/*.md")), TOP / "bench" / "README.md", TOP / "contrib" / "README.md", *sorted(TOP.glob("man/*.[18]"))]
+DEVELOPERS = [TOP / "docs" / name for name in ("ARCHITECTURE.md", "DECISIONS.md", "PROVED.md")]  # of the developer's book, where one looks for them
+OPERATORS = [TOP / "README.md", *(page for page in sorted(TOP.glob("docs/*.md")) if page not in DEVELOPERS)]
+READ = [*OPERATORS, *DEVELOPERS, *sorted(TOP.glob("docs/dev/*.md")), TOP / "bench" / "README.md", TOP / "contrib" / "README.md", *sorted(TOP.glob("man/*.[18]"))]
 
 
 def words_of(page):

@@ -124,6 +124,13 @@ setup 0 'node 2 of named.conf is set up: systemctl enable --now quorumd@2.servic
 same "$(sed -n 's/^ *\(ring0_addr\|name\): //p' etc/quorumd/corosync.conf | xargs)" '192.0.2.7 192.0.2.8 beta.example third 192.0.2.9'
 grep -q "^the text is $(sha256sum < etc/quorumd/corosync.conf | cut -c 1-16): the same on each host" said
 rm -r etc/quorumd/corosync.conf etc/quorumd/key etc/quorumd/node-2.env etc/systemd
+# two networks: a name on either becomes an address, and both are shown
+{ echo 'nodelist {'; node 1 alpha 192.0.2.7; node 2 beta 192.0.2.8; echo '}'; } > rings.conf
+sed -i -e 's/ring0_addr: 192.0.2.7/&\n  ring1_addr: 198.51.100.7/' -e 's/ring0_addr: 192.0.2.8/&\n  ring1_addr: gamma.example/' rings.conf
+setup 0 'node 2 of rings.conf is set up: systemctl enable --now quorumd@2.service' rings.conf --image "$PWD/rings" --create --key key
+same "$(grep '^network ' said | xargs)" 'network 0 192.0.2.7 192.0.2.8 network 1 198.51.100.7 192.0.2.9'
+same "$(sed -n 's/^ *ring1_addr: //p' etc/quorumd/corosync.conf | xargs)" '198.51.100.7 192.0.2.9'
+rm -r etc/quorumd/corosync.conf etc/quorumd/key etc/quorumd/node-2.env etc/systemd
 # all nodes on one host
 setup 0 'node 2 of here.conf is set up: systemctl enable --now quorumd@2.service' here.conf --image "$PWD/own" --create
 same "$(grep ^EDGE etc/quorumd/node-2.env) $(written)" 'EDGE= ./quorumd/corosync.conf ./quorumd/node-1.env ./quorumd/node-2.env ./quorumd/node.env ./systemd/system/quorumd@2.service.d/setup.conf'

@@ -1,22 +1,18 @@
 """`quorumctl status --json` over the rows of tests/rows/status-files.rows, whose texts were written by Python's json: of `good TEXT` the object of the node is
-that text, byte for byte, beside its age and whether it is stale; `same TEXT` is read as the row before; `bad WHY TEXT` is refused, and the line says why."""
+that text, byte for byte, beside its age and whether it is stale; `same TEXT` is read as the row before; `bad WHY TEXT` is refused, and the line says why. The
+rows of tests/rows/status-files-later.rows, of keys that came later, are of the same form, and were written by hand from docs/node-status.schema.json."""
 import pathlib
-import re
 
-from clusterfiles import TOP, same, status
+from clusterfiles import TOP, object_of, same, status
 
 FILE = pathlib.Path("node.json")
 WHYS = {"json": ("it is no JSON", "a key stands twice")}
 
 
 def read(text):
-    """What is shown of a file: the object of its node, without what is said of its age."""
+    """What is shown of a file of that text."""
     FILE.write_text(text + "\n")
-    shown = status("--json", FILE)[1]
-    whole = re.fullmatch(r'\{"nodes":\[(\{.*\})\],"said":"[^"]*","state":"[a-z ]*"\}\n', shown)
-    if not whole:
-        return shown
-    return re.sub(r'"stale":(true|false),', "", re.sub(r'^\{"age":\d+,', "{", whole[1]))
+    return object_of(FILE)
 
 
 def refused(why, text):
@@ -28,7 +24,7 @@ def refused(why, text):
     same(said in ["    ? %s: %s" % (FILE, each) for each in wanted], True, "%s: %s" % (why, said))
 
 
-rows = (TOP / "tests" / "rows" / "status-files.rows").read_text().splitlines()
+rows = [row for name in ("status-files.rows", "status-files-later.rows") for row in (TOP / "tests" / "rows" / name).read_text().splitlines()]
 before = None
 for row in rows:
     kind, text = row.split(" ", 1)

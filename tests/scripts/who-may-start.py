@@ -1,7 +1,7 @@
 """Who may start under a view, by its number: each row of tests/rows/chosen.tsv as a schedule in which every member boots and is told the
 view, once by quorumd and once by the plain program of bench/plain, where rustc is there; and by what reads records of nodes. And whether a
 member that holds gives up under it. A row says how many nodes are configured, the number of the view, its members as ranks, and the rank that may
-start, `-` for none. The same of each view that a leader makes in the rows `candidate` of crates/qn_tests, where all nodes are its members."""
+start, `-` for none. The same of each view that a leader makes in the rows `candidate` of tests/program/qn_tests, where all nodes are its members."""
 import json
 import os
 import pathlib
@@ -27,7 +27,7 @@ def rows():
 
 def led():
     """The views of leaders, with whom each names: a rank, `none`, or `nobody`."""
-    for line in (TOP / "crates" / "qn_tests" / "stdin").read_text().splitlines():
+    for line in (TOP / "tests" / "program" / "qn_tests" / "stdin").read_text().splitlines():
         if line.startswith("candidate\t"):
             words = line.split("\t")
             members = [int(rank) + 1 for rank in words[1].split(",")]

@@ -68,6 +68,9 @@ for path in '' "$(head -c 4091 /dev/zero | tr '\0' x)"; do
 done
 says '--leave-file: given twice' --leave-file a --leave-file b node
 says '--leave-file stands before a node alone' --leave-file a help
+says '--standing-file: given twice' --standing-file a --standing-file b node
+says '--standing-file stands before a node alone' --standing-file a help
+says '--standing-file stands before a node alone' --standing-file a arbiter
 says '--group: given twice' --group a --group b node
 says '--group stands before a node alone' --group a help
 says '--group stands before a node alone' --group a arbiter
@@ -86,9 +89,9 @@ says '--open beside --key' --open --key one help
 says '--open beside --key' --key one --open help
 says '--links wants --key or --open' --links conf help
 says '--links wants --key or --open' --halt file --links conf
-for word in --links --key --halt --status --leave-file --group; do
+for word in --links --key --halt --status --leave-file --standing-file --group; do
     says "$word: its value is missing" "$word"
-    for next in --links --key --open --seal-meaning --halt --status --leave-file --group --blank --anew; do
+    for next in --links --key --open --seal-meaning --halt --status --leave-file --standing-file --group --blank --anew; do
         says "$word: its value is missing" "$word" "$next" conf help
     done
 done
@@ -128,14 +131,14 @@ conf 192.0.2.2 | sed 's/nodeid: 2/nodeid 2/' > other
 refused 'BadConf BadLine line 7'
 conf 192.0.2.2 | sed 's/nodeid: 2/nodeid: 1/' > other
 refused 'BadConf RepeatedId id 1'
+conf 192.0.2.2 | sed 's/nodeid: 2/nodeid: 2\n ring1_addr: 198.51.100.2/' > other
+refused 'ring1_addr: node 1 has none'
 
 # what is good
 takes '' --open help
 takes '' --key one help
 takes '' --halt file --key one --key two --key three --links conf help
 takes '' --links conf6 --open help
-conf 192.0.2.2 | sed 's/nodeid: 2/nodeid: 2\n ring1_addr: 198.51.100.2/' > other
-takes 'quorumd: ring1_addr is not used' --links other --open help
 # the last address of a section counts, and one outside of a node section does not
 conf 192.0.2.9 | sed 's/192.0.2.9/host\n ring0_addr: 192.0.2.2/; s/^nodelist {/ring0_addr: none\nnodelist {\nring0_addr: none/' > other
 takes '' --links other --open help

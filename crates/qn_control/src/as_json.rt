@@ -4,7 +4,7 @@ use crate::image::ImageSeen;
 use crate::image_json::add_nodes as add_nodes_of_image;
 use crate::text::Text;
 use qn_names::phase_name;
-use qn_shown::{Group, Heard, Peer, Shown, ShownView};
+use qn_shown::{Arbiter, Candidate, Group, Heard, HostStanding, Peer, Shown, ShownView};
 use qn_verdict::is_stale;
 use std::alloc::{AllocError, Global};
 
@@ -60,6 +60,9 @@ fn add_unread(json: &mut Text, file: &UnreadFile) {
 
 fn add_node(json: &mut Text, cluster: &ClusterStatus, node: &Shown) {
     json.add_number("{\"age\":", cluster.age(node));
+    if let Some(arbiter) = &node.arbiter {
+        add_arbiter(json, arbiter);
+    }
     json.add_number(",\"dropped\":", node.counts.dropped);
     json.add(",\"end\":");
     match &node.end {
@@ -74,6 +77,9 @@ fn add_node(json: &mut Text, cluster: &ClusterStatus, node: &Shown) {
     }
     json.add_truth(",\"holds\":", node.holds);
     json.add_number(",\"id\":", u64::from(node.id.0));
+    if let Some(images) = node.images {
+        json.add_number(",\"images\":", images);
+    }
     json.add_number_or_null(",\"incarnation\":", node.incarnation);
     json.add_number(",\"late\":", node.counts.late);
     json.add_number(",\"loop\":", u64::from(node.loop_ms));
@@ -88,7 +94,36 @@ fn add_node(json: &mut Text, cluster: &ClusterStatus, node: &Shown) {
     json.add_string(phase_name(node.phase));
     add_votes(json, node);
     json.add_truth(",\"stale\":", is_stale(cluster.now, node));
+    if let Some(standing) = node.standing {
+        add_standing(json, standing);
+    }
     add_rest(json, node);
+}
+
+/// What the node heard of the arbiter of its quorum device.
+fn add_arbiter(json: &mut Text, arbiter: &Arbiter) {
+    json.add(",\"arbiter\":{\"address\":");
+    match &arbiter.address {
+        Some(address) => json.add_string(address.as_str()),
+        None => json.add("null"),
+    }
+    json.add_number(",\"age\":", arbiter.age_ms);
+    json.add(",\"answer\":");
+    json.add_string(arbiter.answer.name());
+    json.add_number(",\"no\":", arbiter.no);
+    json.add_number(",\"polls\":", arbiter.polls);
+    json.add_number(",\"refused\":", arbiter.refused);
+    json.add_number(",\"yes\":", arbiter.yes);
+    json.add("}");
+}
+
+/// What the host of the node says of it.
+fn add_standing(json: &mut Text, standing: HostStanding) {
+    json.add_truth(",\"standing\":{\"fit\":", standing.fit);
+    json.add_truth(",\"pull\":", standing.pull);
+    json.add_truth(",\"standby\":", standing.standby);
+    json.add_number(",\"weight\":", u64::from(standing.weight));
+    json.add("}");
 }
 
 /// The keys from `mail` on.
@@ -110,6 +145,9 @@ fn add_peers(json: &mut Text, peers: &[Peer]) {
         if let Some(name) = &peer.name {
             json.add(",\"name\":");
             json.add_string(name.as_str());
+        }
+        if let Some(network) = peer.network_down {
+            json.add_number(",\"network_down\":", network);
         }
         if let Some(refused) = peer.refused {
             json.add_number(",\"refused\":", refused);
@@ -182,7 +220,17 @@ fn add_rest(json: &mut Text, node: &Shown) {
 }
 
 fn add_view(json: &mut Text, view: &ShownView) {
-    json.add_number("{\"id\":", view.id);
+    json.add(match view.candidate {
+        Candidate::Unsaid => "{",
+        Candidate::Unnamed => "{\"candidate\":null,",
+        Candidate::Nobody => "{\"candidate\":0,",
+        Candidate::Named(_) => "{\"candidate\":",
+    });
+    if let Candidate::Named(id) = view.candidate {
+        json.add_number("", u64::from(id.0));
+        json.add(",");
+    }
+    json.add_number("\"id\":", view.id);
     json.add(",\"members\":[");
     let mut separator = "";
     for member in view.members.as_slice() {

@@ -1,12 +1,12 @@
 //! The status of a cluster, as a table.
-use crate::cluster::{ClusterStatus, silence_of};
+use crate::cluster::{ClusterStatus, add_refused, silence_of};
 use crate::text::Text;
 use qn_names::phase_name;
 use qn_shown::Shown;
-use qn_verdict::{is_stale, members, miss_time};
+use qn_verdict::{is_answered, is_stale, members, miss_time};
 use std::alloc::{AllocError, Global};
 
-/// The verdict in one line, a line for each node, one for each peer that it misses, and one for each file that is none.
+/// The verdict in one line, a line for each node, one for its arbiter and for each peer that it misses, and one for each file that is none.
 pub fn cluster_text(alloc: Global, cluster: &ClusterStatus) -> Result<String, AllocError> {
     let line = cluster.line(alloc)?;
     let mut text = Text::new(alloc);
@@ -15,6 +15,7 @@ pub fn cluster_text(alloc: Global, cluster: &ClusterStatus) -> Result<String, Al
     text.add("\n node phase    holds quorate votes  view           mail         age  why\n");
     for node in cluster.nodes.as_slice() {
         add_node(&mut text, cluster, node);
+        add_arbiter(&mut text, node);
         add_missed(&mut text, node);
     }
     for file in cluster.unread.as_slice() {
@@ -82,6 +83,27 @@ fn add_members(text: &mut Text, node: &Shown) {
         text.add_number(separator, u64::from(member.0));
         separator = ",";
     }
+}
+
+/// A line for what the arbiter of the node's quorum device answers, and how long ago it answered last.
+fn add_arbiter(text: &mut Text, node: &Shown) {
+    let Some(arbiter) = &node.arbiter else {
+        return;
+    };
+    text.add("      device ");
+    if let Some(address) = &arbiter.address {
+        text.add_foreign(address.as_str());
+        text.add(" ");
+    }
+    text.add("answers ");
+    text.add(arbiter.answer.name());
+    text.add(", ");
+    text.add_seconds(arbiter.age_ms);
+    text.add(" s ago");
+    if !is_answered(node, arbiter) {
+        add_refused(text, arbiter.refused);
+    }
+    text.add("\n");
 }
 
 /// A line for each peer that the node never heard, or not for three loops.

@@ -5,15 +5,40 @@ use qn_settings::{Key, SettingsFault, TextFault};
 use std::alloc::{AllocError, Global};
 use std::str::from_utf8;
 
+/// Which lines of a text are at fault.
+#[derive(Clone, Copy)]
+enum Wrong {
+    /// The one of this number, from 1.
+    Line(u64),
+    /// Those of this key.
+    Key(&'static str),
+    /// None by itself.
+    Whole,
+}
+
 /// The lines of the text that the fault names, each with its number: the line itself, or those on which its key stands.
 pub fn wrong_lines(alloc: Global, text: &[u8], fault: &TextFault) -> Result<String, AllocError> {
+    lines_that_are(alloc, text, wrong_of(fault))
+}
+
+/// The lines of the text on which a key stands, each with its number.
+pub fn lines_of_key(alloc: Global, text: &[u8], key: &'static str) -> Result<String, AllocError> {
+    lines_that_are(alloc, text, Wrong::Key(key))
+}
+
+fn lines_that_are(alloc: Global, text: &[u8], wrong: Wrong) -> Result<String, AllocError> {
     let mut lines = Text::new(alloc);
     let text = from_utf8(text).unwrap_or("");
     let mut number = 0u64;
     for line in text.split('\n') {
         number = number.saturating_add(1);
         let line = line.trim();
-        if is_named(fault, number, line) {
+        let is_wrong = match wrong {
+            Wrong::Line(at) => at == number,
+            Wrong::Key(key) => has_key(line, key),
+            Wrong::Whole => false,
+        };
+        if is_wrong {
             lines.add_number("line ", number);
             lines.add(": ");
             lines.add(line);
@@ -23,20 +48,20 @@ pub fn wrong_lines(alloc: Global, text: &[u8], fault: &TextFault) -> Result<Stri
     lines.finish()
 }
 
-/// Whether the fault names this line of the text.
-fn is_named(fault: &TextFault, number: u64, line: &str) -> bool {
+/// Which lines a fault names.
+fn wrong_of(fault: &TextFault) -> Wrong {
     match fault {
         TextFault::Conf(
-            ConfFault::BadLine { line: at }
-            | ConfFault::ExtraClose { line: at }
-            | ConfFault::TooDeep { line: at },
-        ) => *at == number,
+            ConfFault::BadLine { line }
+            | ConfFault::ExtraClose { line }
+            | ConfFault::TooDeep { line },
+        ) => Wrong::Line(*line),
         TextFault::Conf(
             ConfFault::Unclosed | ConfFault::NotText | ConfFault::TooLong | ConfFault::NoMemory,
-        ) => false,
+        ) => Wrong::Whole,
         TextFault::Settings(fault) => match key_of(fault) {
-            Some(key) => has_key(line, key),
-            None => false,
+            Some(key) => Wrong::Key(key),
+            None => Wrong::Whole,
         },
     }
 }

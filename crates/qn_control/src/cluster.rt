@@ -5,8 +5,8 @@ use qn_model::Phase;
 use qn_names::phase_name;
 use qn_shown::{Group, Peer, Shown};
 use qn_verdict::{
-    Verdict, Voice, has_voice, is_contested, is_heard, is_held, is_held_twice, is_live, is_quiet,
-    judge, members, told_voice, voice_of,
+    Verdict, Voice, has_voice, is_answered, is_contested, is_heard, is_held, is_held_twice,
+    is_live, is_quiet, judge, members, told_voice, voice_of,
 };
 use std::alloc::{AllocError, Global};
 
@@ -326,6 +326,11 @@ impl<'a> Words<'a> {
         for node in cluster.nodes.as_slice() {
             self.add_state(node);
         }
+        for node in cluster.nodes.as_slice() {
+            if is_live(cluster.now, node) {
+                self.add_lost(node);
+            }
+        }
         for file in cluster.unread.as_slice() {
             self.begin();
             self.text.add_foreign(file.path.as_str());
@@ -367,6 +372,33 @@ impl<'a> Words<'a> {
         }
     }
 
+    /// What a node lost of its images, its networks and its arbiter.
+    fn add_lost(&mut self, node: &Shown) {
+        if let Some(images) = node.images {
+            self.begin_node(node.id);
+            self.text.add_number(" runs on ", images);
+            self.text.add(" of 3 images");
+        }
+        for peer in node.peers.as_slice() {
+            if let Some(network) = peer.network_down {
+                self.begin();
+                self.text.add_number("network ", network);
+                self.text.add(" to ");
+                self.add_node(peer.id);
+                self.text.add(" is down");
+            }
+        }
+        if let Some(arbiter) = &node.arbiter {
+            if !is_answered(node, arbiter) {
+                self.begin();
+                self.text
+                    .add_number("device silent for ", arbiter.age_ms / 1000);
+                self.text.add(" s");
+                add_refused(&mut self.text, arbiter.refused);
+            }
+        }
+    }
+
     /// A file of a node that says nothing of now.
     fn add_stale(&mut self, node: &Shown) {
         self.begin_node(node.id);
@@ -384,6 +416,14 @@ impl<'a> Words<'a> {
                 self.text.add(" s");
             }
         }
+    }
+}
+
+/// Adds how many packets came from an arbiter that no key opened, where some did.
+pub(crate) fn add_refused(text: &mut Text, refused: u64) {
+    if refused > 0 {
+        text.add_number(" (", refused);
+        text.add(" packets refused: another key or text)");
     }
 }
 

@@ -59,12 +59,14 @@ fn of_votes<W: fmt::Write>(
     )
 }
 
-/// The keys of a node that are known (corosync.conf(5), nodelist), and fence_delay of this project's profile.
+/// The keys of a node that are known (corosync.conf(5), nodelist), and fence_delay, standby and location_score of this project's profile.
 const NODE_KEYS: &[&str] = &[
     "nodeid",
     "name",
     "quorum_votes",
     "fence_delay",
+    "standby",
+    "location_score",
     "ring0_addr",
     "ring1_addr",
     "ring2_addr",

@@ -124,6 +124,8 @@ fn sentences_of(line: &JournalLine<'_>) -> &'static [&'static str] {
         ],
         "device" => &["the arbiter answered node {node} {answer} in view {view}"],
         "device-silent" => &["node {node} hears nothing of its arbiter, for {age} ms"],
+        "image-lost" => &["node {node} lost image {image}"],
+        "image-back" => &["node {node} has image {image} again"],
         "fence-written" => &[
             "node {node} fenced node {of} ({name}): reset written, ok={ok}, msgwait {msgwait} ms",
             "node {node} fenced node {of}: reset written, ok={ok}, msgwait {msgwait} ms",

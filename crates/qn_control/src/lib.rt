@@ -8,6 +8,7 @@
 mod as_json;
 mod as_metrics;
 mod as_table;
+mod asking;
 mod at_fault;
 mod cluster;
 mod concerns;
@@ -21,6 +22,8 @@ mod image_json;
 mod image_lines;
 mod journal_line;
 mod named;
+mod networks;
+mod node_concerns;
 mod pairs;
 mod text;
 mod text_concerns;
@@ -31,7 +34,10 @@ mod unbounded;
 pub use as_json::cluster_json;
 pub use as_metrics::cluster_metrics;
 pub use as_table::cluster_text;
-pub use at_fault::wrong_lines;
+pub use asking::{
+    Decision, Progress, Refusal, Request, Written, decide, is_missing, progress_of, words_with,
+};
+pub use at_fault::{lines_of_key, wrong_lines};
 pub use cluster::{ClusterStatus, UnreadFile};
 pub use concerns::{Concern, concerns_of};
 pub use devices::{DeviceConcern, device_concerns_of};
@@ -41,6 +47,8 @@ pub use history::History;
 pub use image::{ImageSeen, NodeSeen, Sectors, look_at_image};
 pub use image_json::{check_json, list_json};
 pub use image_lines::{finding_lines, image_lines_beside, node_lines};
+pub use networks::{NetworksTold, networks_told};
+pub use node_concerns::{NodeConcern, node_concerns_of};
 pub use pairs::{Pair, Place, pairs_of};
 pub use text_concerns::{TextConcern, has_byte_order_mark, text_concerns_of};
 pub use times::{least_msgwait, longest_take_over, slowest_disk, unbounded_on};

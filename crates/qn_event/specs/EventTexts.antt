@@ -12,9 +12,9 @@ pub record EventText : Type 0 where
 abbrev pub IsLineByte : ℕ → Type 0
 IsLineByte byte = IsTrue (nat_le 32 byte && not (byte == 127))
 
--- a byte that stands for itself in a value: no control, no space, no " and no =
+-- a byte that stands for itself in a value: no control, no space, no ", no % and no =
 abbrev pub is_value_byte : ℕ → Bool
-is_value_byte byte = nat_le 33 byte && not (byte == 34) && not (byte == 61) && not (byte == 127)
+is_value_byte byte = nat_le 33 byte && not (byte == 34) && not (byte == 37) && not (byte == 61) && not (byte == 127)
 
 -- a digit of a number below 16
 abbrev pub hex_digit : ℕ → ℕ

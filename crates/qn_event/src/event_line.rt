@@ -220,7 +220,7 @@ fn room_for(byte: u8) -> usize
 fn is_value_byte(byte: u8) -> bool
     ensures { result ≡ is_value_byte byte }
 {
-    byte >= 33 && byte != b'"' && byte != b'=' && byte != 127
+    byte >= 33 && byte != b'"' && byte != b'%' && byte != b'=' && byte != 127
 }
 
 /// The digit of a number below 16.

@@ -2,13 +2,15 @@
 //!
 //! Promises: a line begins with its node, its tick, its time, its level and its event as defined, has exactly the words that were added to it
 //! (`specs/EventWords`), a plain one as ` KEY=VALUE`, and at most 511 bytes without its end; whatever its values are, none of its words holds a
-//! control, so that it is one line.
+//! control, so that it is one line. The text of a value is read as that value (`law_value_read_back`).
 #![tactic(auto)]
 
 mod event_line;
+mod laws;
 mod level;
 mod moment;
 
 pub use event_line::EventLine;
+pub use laws::law_value_read_back;
 pub use level::Level;
 pub use moment::Moment;

@@ -1,5 +1,5 @@
 -- The boot of a running node, its feeds and its end, as events of its world.
-use Rattle.std.proofs.Common.{◌≡◌, ◌<◌, ◌≤◌, ℕ, suc, Bool, true, false, not, ◌&&◌, ◌||◌, ◌+◌, List, [], ◌∷◌, Option, None, if◌then◌else◌, refl, sym, ap, subst, ◌∙◌, arith}
+use Rattle.std.proofs.Common.{Some, ◌≡◌, ◌<◌, ◌≤◌, ℕ, suc, Bool, true, false, not, ◌&&◌, ◌||◌, ◌+◌, List, [], ◌∷◌, Option, None, if◌then◌else◌, refl, sym, ap, subst, ◌∙◌, arith}
 use Rattle.std.specs.Prelude.{◌==◌, length, nat_le}
 use Rattle.std.specs.Option.{option_or, option_map_or}
 use Rattle.std.proofs.lemmas.Bool.{lt-ltb}
@@ -27,7 +27,8 @@ use Rattle.qn_live.specs.declared.place.Choice.{Choice}
 use Rattle.qn_live.specs.declared.place.Choice.TheVariants as choice
 use Rattle.qn_live.specs.Running.{RunState, first_state}
 use Rattle.qn_joined.specs.Joints.{Host, looked_first, returned, began, is_none_left, is_over, is_timed, may_begin}
-use Rattle.qn_joined.specs.Moves.{BeginsAsNode, BootsInWorld, Changes, FeedsInWorld, IsNodeIn, Moved}
+use Rattle.qn_joined.specs.Moves as moves
+use Rattle.qn_joined.specs.Moves.{BeginsAsNode, BootsInWorld, Changes, FeedsInWorld, Hands, IsBoot, IsNodeIn, Moved, boot_event}
 use Rattle.qn_safety.specs.NodeLogs.{IsNodeLog, LogsHold}
 use Rattle.qn_joined.specs.Nodes.{AllSaid, IsReady, Spends}
 use Rattle.qn_safety.specs.AnyNumbers.{AllMay, is_ranked}
@@ -90,10 +91,6 @@ said_at_boot s rank base clean ms =
     all_said _ (newest_outs (node s rank (Boots rank base clean ∷ ms)).log) (λ sent is. Contains-append_right (packets s ms) _ sent is)
 
 -- the event of a boot
-abbrev pub boot_event : ℕ → ℕ → Bool → Event
-boot_event rank base false = event.Boot (rank_of rank) base
-boot_event rank base true = event.BootClean (rank_of rank) base
-
 pub boot_ranked : (s : Settings) (rank base : ℕ) (clean : Bool) → rank < length s.nodes → is_ranked s (boot_event rank base clean) ≡ true
 boot_ranked s rank base false below = lt-ltb rank (length s.nodes) below
 boot_ranked s rank base true below = lt-ltb rank (length s.nodes) below
@@ -208,10 +205,11 @@ module _ (s : Settings) (t : Timing) (rank : ℕ) (events : List Event) (host : 
       (boots_as_node s rank w.moments host base fresh (unasked_idle is on unasked) on fed
       (subst (λ x. IsNodeLog s (node_at s rank x).log) run_is (logs (boot_event rank base fresh.clean ∷ events) rank may_boot below))))
 
-  boots_here : Moved s t rank events (looked_first s rank base (time w.moments) host)
+  boots_here : Moved s t (IsBoot rank base) rank events (looked_first s rank base (time w.moments) host)
   boots_here = record {
     events' = boot_event rank base fresh.clean ∷ events;
     grew = Later _ Itself;
+    one = record { event = Some (boot_event rank base fresh.clean); is = (fresh.clean, refl); grew = refl };
     may = may_boot;
     changes = subst (λ x. Changes s rank w x) (sym run_is) (boots_changes s rank base fresh.clean w);
     slots = ap (λ x. x.slots) run_is;
@@ -223,11 +221,13 @@ pub boots_in_world : (s : Settings) (t : Timing) → LogsHold s t → BootsInWor
 boots_in_world s t logs rank events host base below may is on unasked fed = boots_here s t rank events host base logs below may is on unasked fed
 
 -- a node that is off: nothing happens in its world
-pub no_event : {s : Settings} {t : Timing} {rank : ℕ} {events : List Event} {host : Host} → AllMay s t events → IsNodeIn s rank host (run s t events) → Moved s t rank events host
-no_event {s} {t} {rank} {events} {host} may is =
+pub no_event : {s : Settings} {t : Timing} {entry : Option What} {rank : ℕ} {events : List Event} {host : Host} → AllMay s t events → IsNodeIn s rank host (run s t events)
+    → Moved s t (Hands rank entry) rank events host
+no_event {s} {t} {entry} {rank} {events} {host} may is =
     record {
       events' = events;
       grew = Itself;
+      one = record { event = None; is = moves.Nothing; grew = refl };
       may = may;
       changes = record { time = refl; grows = λ r p h. h; node = λ r apart. refl; took = λ r apart. refl; left = λ r apart. refl };
       slots = refl;
@@ -304,13 +304,14 @@ module _ (s : Settings) (t : Timing) (rank : ℕ) (events : List Event) (host : 
     may,
   )
 
-  feeds_here : (b : Bool) → (node_at s rank fed_world).on ≡ b → Moved s t rank events (record host { fed = time fed_world.moments })
+  feeds_here : (b : Bool) → (node_at s rank fed_world).on ≡ b → Moved s t (Hands rank None) rank events (record host { fed = time fed_world.moments })
   unfolding run step packets
   feeds_here false off = no_event may (unfed_node (time fed_world.moments) off is)
   feeds_here true on =
       record {
         events' = event.Feed (rank_of rank) ∷ events;
         grew = Later _ Itself;
+        one = record { event = Some (event.Feed (rank_of rank)); is = moves.Plainly refl; grew = refl };
         may = may_feed_now on;
         changes = feeds_changes s rank fed_world;
         slots = refl;

@@ -22,7 +22,8 @@ use Rattle.qn_model.specs.World.{World, given_up, leftover_at, node_at}
 use Rattle.qn_live.specs.Greetings.{sends_plan}
 use Rattle.qn_live.specs.Performing.{disk_call, out_call, outs_plan, own_number}
 use Rattle.qn_joined.specs.Joints.{Host, ended, given_up_by, left_over, waits_for}
-use Rattle.qn_joined.specs.Moves.{Changes, EndsInWorld, IsNodeIn, Moved}
+use Rattle.qn_joined.specs.Moves as moves
+use Rattle.qn_joined.specs.Moves.{Changes, EndsInWorld, Hands, IsNodeIn, Moved}
 use Rattle.qn_safety.specs.NodeLogs.{IsNodeLog, LogsHold}
 use Rattle.qn_joined.specs.Nodes.{at}
 use Rattle.qn_safety.specs.AnyNumbers.{AllMay}
@@ -173,10 +174,11 @@ module _ (s : Settings) (t : Timing) (rank : ℕ) (events : List Event) (host : 
           subst (λ x. AreAmong s rank (host.left ++ given_up_by (waits_for s rank (record host { stand = x })) host.took) (w.left rank)) (sym fresh.stand)
           (fresh_among fresh)
 
-  ends_here : (b : Bool) → (node_at s rank w).on ≡ b → Moved s t rank events (ended s rank host)
+  ends_here : (b : Bool) → (node_at s rank w).on ≡ b → Moved s t (Hands rank None) rank events (ended s rank host)
   ends_here true lives = record {
     events' = event.Crash (rank_of rank) ∷ events;
     grew = Later _ Itself;
+    one = record { event = Some (event.Crash (rank_of rank)); is = moves.Plainly refl; grew = refl };
     may = may_crash lives;
     changes = subst (λ x. Changes s rank w x) (sym run_is) (ends_changes s rank w);
     slots = ap (λ x. x.slots) run_is;

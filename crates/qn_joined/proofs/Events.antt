@@ -28,6 +28,7 @@ use Rattle.qn_model.specs.Steps.{answered, entry_of, fails, happens, step}
 use Rattle.qn_model.specs.Wanted.{rank_of}
 use Rattle.qn_model.specs.World.{World, failed, given_up, leftover_at, node_at, op_at}
 use Rattle.qn_joined.specs.Joints.{Host}
+use Rattle.qn_joined.specs.Moves as moves
 use Rattle.qn_joined.specs.Nodes.{Spends}
 use Rattle.qn_safety.specs.AnyNumbers.{is_ranked}
 use Rattle.qn_safety.specs.declared.triple_event.TripleEvent.TheVariants as triple
@@ -47,6 +48,7 @@ pub record HandsPlainly (s : Settings) (t : Timing) (rank : ℕ) (entry : What) 
   pub nodes : IsOfNodes s t of
   pub ranked : is_ranked s of ≡ true
   pub allowed : refusal s t of w ≡ None
+  pub one : moves.Hands rank (Some entry) (Some of)
   pub given : What
   pub same : handed s rank (time w.moments) given (node_at s rank w) ≡ handed s rank (time w.moments) entry (node_at s rank w)
   pub is : step s t of w ≡ happens (Adds rank given) w
@@ -69,6 +71,7 @@ module _ (s : Settings) (t : Timing) (rank : ℕ) (w : World) (lives : (node_at 
     nodes = record { refused = λ u. refl; steps = λ u. refl };
     ranked = refl;
     allowed = on_allows None refl;
+    one = moves.Plainly refl;
     given = what.Tick;
     same = same;
     is = refl;
@@ -91,6 +94,7 @@ module _ (s : Settings) (t : Timing) (rank : ℕ) (w : World) (lives : (node_at 
         nodes = record { refused = λ u. refl; steps = λ u. refl };
         ranked = refl;
         allowed = on_allows (unless (is_member v.members rank) 7) (ap (λ b. unless b 7) e);
+        one = moves.AView v refl;
         given = what.View v;
         same = refl;
         is = refl;
@@ -106,6 +110,7 @@ module _ (s : Settings) (t : Timing) (rank : ℕ) (w : World) (lives : (node_at 
     ranked = refl;
     allowed = on_allows (unless (may_deliver s rank is.there.0 w) 8)
         (ap (λ b. unless b 8) (ap (λ o. option_map_or (λ (sent : Sent). sent.to.0 == rank) o false) found ∙ eq-eqb is.to.to.0 rank is.receiver));
+    one = moves.Plainly refl;
     given = entry_of p;
     same = refl;
     is = ap (λ o. option_map_or (λ (sent : Sent). happens (Adds rank (entry_of sent.packet)) w) o w) found ∙ ap (λ q. happens (Adds rank (entry_of q)) w) is.content;
@@ -125,6 +130,7 @@ module _ (s : Settings) (t : Timing) (rank : ℕ) (w : World) (lives : (node_at 
     nodes = record { refused = λ u. refl; steps = λ u. refl };
     ranked = refl;
     allowed = due_allows due;
+    one = moves.Plainly refl;
     given = what.Stopped true;
     same = refl;
     is = refl;
@@ -134,6 +140,7 @@ module _ (s : Settings) (t : Timing) (rank : ℕ) (w : World) (lives : (node_at 
     nodes = record { refused = λ u. refl; steps = λ u. refl };
     ranked = refl;
     allowed = due_allows due;
+    one = moves.Plainly refl;
     given = what.Stopped false;
     same = refl;
     is = refl;
@@ -146,6 +153,7 @@ module _ (s : Settings) (t : Timing) (rank : ℕ) (w : World) (lives : (node_at 
     nodes = record { refused = λ u. refl; steps = λ u. refl };
     ranked = refl;
     allowed = on_allows None refl;
+    one = moves.AnAnswer agrees refl;
     given = what.Device agrees;
     same = refl;
     is = refl;
@@ -158,6 +166,7 @@ module _ (s : Settings) (t : Timing) (rank : ℕ) (w : World) (lives : (node_at 
     nodes = record { refused = λ u. refl; steps = λ u. refl };
     ranked = refl;
     allowed = on_allows None refl;
+    one = moves.Plainly refl;
     given = what.Leave;
     same = refl;
     is = refl;
@@ -210,6 +219,7 @@ pub record Hands (s : Settings) (t : Timing) (rank : ℕ) (entry : What) (host :
   pub of : Event
   pub ranked : is_ranked s of ≡ true
   pub allowed : refusal s t of w ≡ None
+  pub one : moves.Hands rank (Some entry) (Some of)
   pub given : What
   pub same : handed s rank (time w.moments) given (node_at s rank w) ≡ handed s rank (time w.moments) entry (node_at s rank w)
   pub moments : (step s t of w).moments ≡ Adds rank given ∷ w.moments
@@ -227,6 +237,7 @@ module _ (s : Settings) (t : Timing) (rank : ℕ) (host : Host) (w : World) (liv
         of = h.of;
         ranked = h.ranked;
         allowed = h.allowed;
+        one = h.one;
         given = h.given;
         same = h.same;
         moments = ap (λ x. x.moments) h.is;
@@ -246,6 +257,7 @@ module _ (s : Settings) (t : Timing) (rank : ℕ) (host : Host) (w : World) (liv
         of = event.Fail (rank_of rank);
         ranked = refl;
         allowed = on_allows s t rank w lives (unless (may_fail s rank w) 5) (ap (λ o. unless (is_some o) 5) out);
+        one = moves.Plainly refl;
         given = failed op;
         same = refl;
         moments = ap (λ x. x.moments) steps;
@@ -278,6 +290,7 @@ module _ (s : Settings) (t : Timing) (rank : ℕ) (host : Host) (w : World) (liv
         of = event.Done (rank_of rank);
         ranked = refl;
         allowed = on_allows s t rank w lives (unless (may_be_done s rank w) 5) (ap (λ o. unless (is_some o && is_some (w.took rank)) 5) out ∙ ap (λ k. unless (true && is_some k) 5) took);
+        one = moves.Plainly refl;
         given = entry;
         same = refl;
         moments = ap (λ x. x.moments) steps;

@@ -32,7 +32,9 @@ use Rattle.qn_joined.specs.Nodes.{at}
 use Rattle.qn_safety.specs.AnyNumbers.{AllMay}
 use Rattle.qn_joined.specs.Stands.{Spot, Receiving, Looking, Acting, Polling, Saying, Parting, Ended, left_plan, log_at}
 use Rattle.qn_joined.specs.Theorem.{TakesAlike}
-use Rattle.qn_joined.specs.WorldOf.{AreAmong, HasGrown, IsNode, IsWorld, Performs, TookAlike, disk_ahead}
+use Rattle.qn_joined.specs.Moves as moves
+use Rattle.qn_joined.specs.Moves.{HasStepped}
+use Rattle.qn_joined.specs.WorldOf.{AreAmong, IsNode, IsWorld, Performs, TookAlike, disk_ahead}
 use Rattle.qn_joined.proofs.Calls.{timed_on}
 use Rattle.qn_joined.proofs.Frames.{one_moves}
 use Rattle.qn_joined.proofs.Images.{image_lands, mail_put, takes_done}
@@ -118,14 +120,15 @@ module _ {s : Settings} {rank : ℕ} (host : Host) (n : Running) (took : Option 
 
 pub lands_in_world : (s : Settings) (t : Timing) (events : List Event) (j : Joint) (rank : ℕ)
     → TakesAlike s t → LogsHold s t → rank < length s.nodes
-    → AllMay s t events → IsWorld s t j (run s t events) → FitsImage s t → MayHappen s t (joints.Lands rank) j → HasGrown s t events (happens s (joints.Lands rank) j)
+    → AllMay s t events → IsWorld s t j (run s t events) → FitsImage s t → MayHappen s t (joints.Lands rank) j → HasStepped s t (moves.Hands rank None) events (happens s (joints.Lands rank) j)
 unfolding AllMay run step refusal happens
 lands_in_world s t events j rank alike logs below may is fits happen =
-    subst (λ o. HasGrown s t events (option_map_or
+    subst (λ o. HasStepped s t (moves.Hands rank None) events (option_map_or
     (λ waiting. record (with_host rank (record (j.hosts rank) { took = Some (takes waiting j.image) }) j) { image = landed_image waiting j.image }) o j)) (sym d.waits)
     (record {
       events' = event.Land (rank_of rank) ∷ events;
       grew = Later _ Itself;
+      one = record { event = Some (event.Land (rank_of rank)); is = moves.Plainly refl; grew = refl };
       may = (
         refl,
         ap (λ b. option_or (unless b 3) (unless (may_land s rank w) 4)) d.lives
@@ -178,12 +181,13 @@ may_by deadly there there' on on' same off is = subst (λ b. (deadly || not b ||
 
 pub operates_in_world : (s : Settings) (t : Timing) (events : List Event) (j : Joint) (rank : ℕ) (sent : Message)
     → ((m : Mail) → IfSome m.by IsSender → mail_of (mail_bytes m) ≡ Some m)
-    → AllMay s t events → IsWorld s t j (run s t events) → FitsImage s t → MayHappen s t (joints.Operates rank sent) j → HasGrown s t events (happens s (joints.Operates rank sent) j)
+    → AllMay s t events → IsWorld s t j (run s t events) → FitsImage s t → MayHappen s t (joints.Operates rank sent) j → HasStepped s t (moves.Hands rank None) events (happens s (joints.Operates rank sent) j)
 unfolding AllMay run step refusal happens
 operates_in_world s t events j rank sent back may is fits happen =
     record {
       events' = event.Operator (rank_of rank) sent ∷ events;
       grew = Later _ Itself;
+      one = record { event = Some (event.Operator (rank_of rank) sent); is = moves.Plainly refl; grew = refl };
       may = (refl, ap (λ b. unless b 10) allowed, may);
       world = record {
         time = is.time;

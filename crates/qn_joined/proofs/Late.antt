@@ -28,7 +28,9 @@ use Rattle.qn_joined.specs.Joints as joints
 use Rattle.qn_joined.specs.Joints.{FitsImage, Host, Joint, MayHappen, happens, landed_image, with_host}
 use Rattle.qn_safety.specs.AnyNumbers.{AllMay}
 use Rattle.qn_joined.specs.Stands.{Spot, Receiving, Looking, Acting, Polling, Saying, Parting, Ended}
-use Rattle.qn_joined.specs.WorldOf.{AreAmong, NoCall, Skips, Made, ComesAs, ComesIn, HasGrown, IsAnswer, IsBacked, IsImage, IsNode, IsWorld, Waiting, disk_ahead, still_out}
+use Rattle.qn_joined.specs.Moves as moves
+use Rattle.qn_joined.specs.Moves.{HasStepped}
+use Rattle.qn_joined.specs.WorldOf.{AreAmong, NoCall, Skips, Made, ComesAs, ComesIn, IsAnswer, IsBacked, IsImage, IsNode, IsWorld, Waiting, disk_ahead, still_out}
 use Rattle.qn_safety.specs.NodeLogs.{IsOperation}
 use Rattle.qn_joined.proofs.Frames.{one_moves}
 use Rattle.qn_joined.proofs.Images.{image_lands}
@@ -224,7 +226,7 @@ module _ (s : Settings) (t : Timing) (events : List Event) (j : Joint) (rank : �
   abbrev after : ℕ → Call → Joint
   after number write = record (with_host rank (record host { left = without host.left number }) j) { image = landed_image write j.image }
 
-  late_here : (place : ℕ) (write : Call) → slice_get host.left place ≡ Some write → HasGrown s t events (after (suc place) write)
+  late_here : (place : ℕ) (write : Call) → slice_get host.left place ≡ Some write → HasStepped s t (moves.Hands rank None) events (after (suc place) write)
   unfolding AllMay run step refusal
   late_here place write there = by_place (parted (w.left rank) (still_out n host.stand.spot (w.took rank)) d.at d.op d.there)
     where
@@ -238,10 +240,11 @@ module _ (s : Settings) (t : Timing) (events : List Event) (j : Joint) (rank : �
       spells w' slots mails =
           subst (λ c. IsImage s t (landed_image c j.image) w') (sym d.call) (image_lands is.image fits w' rank d.number d.op below d.small d.fits slots mails)
 
-      by_place : Parted (w.left rank) (still_out n host.stand.spot (w.took rank)) d.at d.op → HasGrown s t events (after (suc place) write)
+      by_place : Parted (w.left rank) (still_out n host.stand.spot (w.took rank)) d.at d.op → HasStepped s t (moves.Hands rank None) events (after (suc place) write)
       by_place (inl two) = record {
         events' = event.Late (rank_of rank) (suc d.at) ∷ events;
         grew = Later _ Itself;
+        one = record { event = Some (event.Late (rank_of rank) (suc d.at)); is = moves.Plainly refl; grew = refl };
         may = (refl, ap (λ o. unless (is_some o) 6) two.0, may);
         world =
             subst (λ x. IsWorld s t (after (suc place) write) x) (sym (ap (λ o. option_map_or (λ op. lands_late rank (suc d.at) op w) o w) two.0))
@@ -259,6 +262,7 @@ module _ (s : Settings) (t : Timing) (events : List Event) (j : Joint) (rank : �
           record {
             events' = event.Land (rank_of rank) ∷ events;
             grew = Later _ Itself;
+            one = record { event = Some (event.Land (rank_of rank)); is = moves.Plainly refl; grew = refl };
             may = (
               refl,
               ap (λ b. option_or (unless b 3) (unless (may_land s rank w) 4)) still.lives
@@ -279,22 +283,22 @@ module _ (s : Settings) (t : Timing) (events : List Event) (j : Joint) (rank : �
           }
 
   late_by : (number : ℕ) → is_some (numbered host.left number) ≡ true
-      → HasGrown s t events (option_map_or (λ write. after number write) (numbered host.left number) j)
+      → HasStepped s t (moves.Hands rank None) events (option_map_or (λ write. after number write) (numbered host.left number) j)
   late_by zero some = absurd cc
   late_by (suc place) some = by_found (slice_get host.left place) refl some (late_here place)
     where
       by_found : (found : Option Call) → slice_get host.left place ≡ found → is_some found ≡ true
-          → ((write : Call) → slice_get host.left place ≡ Some write → HasGrown s t events (after (suc place) write))
-          → HasGrown s t events (option_map_or (λ write. after (suc place) write) found j)
+          → ((write : Call) → slice_get host.left place ≡ Some write → HasStepped s t (moves.Hands rank None) events (after (suc place) write))
+          → HasStepped s t (moves.Hands rank None) events (option_map_or (λ write. after (suc place) write) found j)
       by_found None e some here = absurd cc
       by_found (Some write) e some here = here write e
 
 pub late_in_world : (s : Settings) (t : Timing) (events : List Event) (j : Joint) (rank number : ℕ)
-    → AllMay s t events → IsWorld s t j (run s t events) → FitsImage s t → MayHappen s t (joints.LandsLate rank number) j → HasGrown s t events (happens s (joints.LandsLate rank number) j)
+    → AllMay s t events → IsWorld s t j (run s t events) → FitsImage s t → MayHappen s t (joints.LandsLate rank number) j → HasStepped s t (moves.Hands rank None) events (happens s (joints.LandsLate rank number) j)
 unfolding happens
 late_in_world s t events j rank number may is fits happen = by_order (cases_lt rank (length s.nodes))
   where
-    by_order : (rank < length s.nodes) ⊎ (length s.nodes ≤ rank) → HasGrown s t events (happens s (joints.LandsLate rank number) j)
+    by_order : (rank < length s.nodes) ⊎ (length s.nodes ≤ rank) → HasStepped s t (moves.Hands rank None) events (happens s (joints.LandsLate rank number) j)
     by_order (inl below) = late_by s t events j rank below may is fits number happen
     by_order (inr out) = absurd (none_numbered number (subst (λ l. is_some (numbered l number) ≡ true) (is.bare rank out) happen))
       where

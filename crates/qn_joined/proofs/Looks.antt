@@ -123,6 +123,7 @@ looks_in_world s t logs rank events host chosen tick below may is on asked clock
     record {
       events' = h.of ∷ events;
       grew = Later _ Itself;
+      one = record { event = Some h.of; is = h.one; grew = refl };
       may = (h.ranked, h.allowed, may);
       changes = adds_changes s rank h.given w w' h.moments h.took h.left;
       slots = h.slots;

@@ -1,5 +1,5 @@
 -- Time that passes, as an event of the world of a joint.
-use Rattle.std.proofs.Common.{◌≡◌, ◌<◌, ◌≤◌, ◌+◌, ◌-◌, ◌*◌, ℕ, zero, suc, Bool, true, false, not, ◌&&◌, List, [], ◌∷◌, Option, if◌then◌else◌, refl, sym, ap, subst, ◌∙◌, arith, ◌⊎◌, inl, inr}
+use Rattle.std.proofs.Common.{Some, ◌≡◌, ◌<◌, ◌≤◌, ◌+◌, ◌-◌, ◌*◌, ℕ, zero, suc, Bool, true, false, not, ◌&&◌, List, [], ◌∷◌, Option, if◌then◌else◌, refl, sym, ap, subst, ◌∙◌, arith, ◌⊎◌, inl, inr}
 use Rattle.std.specs.Prelude.{length}
 use Rattle.std.specs.List.{list_all, range_with_len}
 use Rattle.std.proofs.lemmas.Bool.{cases_lt, le-leb, leb-true}
@@ -23,7 +23,8 @@ use Rattle.qn_joined.specs.Joints.{Host, Joint, MayHappen, happens, host_passes,
 use Rattle.qn_joined.specs.Moves.{Grows}
 use Rattle.qn_safety.specs.AnyNumbers.{AllMay}
 use Rattle.qn_joined.specs.Stands.{log_at}
-use Rattle.qn_joined.specs.WorldOf.{HasGrown, IsNode, IsWorld}
+use Rattle.qn_joined.specs.Moves.{HasStepped, IsEventOf}
+use Rattle.qn_joined.specs.WorldOf.{IsNode, IsWorld}
 use Rattle.qn_joined.proofs.Frames.{backed_grows, grows_more, knows_grows}
 use Rattle.qn_joined.proofs.Images.{same_image}
 
@@ -89,12 +90,13 @@ passes_by t dt advance now n fed true e le is =
     both false b c h is = is
 
 pub passes_in_world : (s : Settings) (t : Timing) (events : List Event) (j : Joint) (dt : ℕ) (clocks : List (Rank × ℕ))
-    → AllMay s t events → IsWorld s t j (run s t events) → joints.FitsImage s t → MayHappen s t (joints.Passes dt clocks) j → HasGrown s t events (happens s (joints.Passes dt clocks) j)
+    → AllMay s t events → IsWorld s t j (run s t events) → joints.FitsImage s t → MayHappen s t (joints.Passes dt clocks) j → HasStepped s t (IsEventOf (joints.Passes dt clocks) j) events (happens s (joints.Passes dt clocks) j)
 unfolding AllMay run step refusal happens node time packets
 passes_in_world s t events j dt clocks may is fits happen =
     record {
       events' = event.Pass dt clocks ∷ events;
       grew = Later _ Itself;
+      one = record { event = Some (event.Pass dt clocks); is = refl; grew = refl };
       may = (refl, ap (λ b. unless b 1) allowed, may);
       world = record {
         time = ap (λ k. k + dt) is.time;

@@ -32,12 +32,12 @@ use Rattle.qn_live.specs.Performing.{disk_call, out_call, outs_plan, own_number}
 use Rattle.qn_safety.specs.NodeLogs.{LogsHold}
 use Rattle.qn_joined.specs.Joints as joints
 use Rattle.qn_joined.specs.Joints.{FitsImage, Host, Joint, MayAnswer, MayHappen, MayReturn, after_effect, counts, happens, is_timed, looked_first, packet_said, returned, sent_by, waits_for, with_host}
-use Rattle.qn_joined.specs.Moves.{IsNodeIn, Moved}
+use Rattle.qn_joined.specs.Moves.{Hands, HasStepped, IsEventOf, IsNodeIn, Moved, entry_handed}
 use Rattle.qn_joined.specs.Nodes.{at, is_looking}
 use Rattle.qn_safety.specs.AnyNumbers.{AllMay}
 use Rattle.qn_joined.specs.Theorem.{PacketsReadBack}
 use Rattle.qn_joined.specs.Stands.{Spot, Receiving, Looking, Acting, Polling, Saying, Parting, Ended, left_plan}
-use Rattle.qn_joined.specs.WorldOf.{HasGrown, IsNode, IsWorld, WasSentTo, is_greeting}
+use Rattle.qn_joined.specs.WorldOf.{IsNode, IsWorld, WasSentTo, is_greeting}
 use Rattle.qn_joined.proofs.Boots.{no_event}
 use Rattle.qn_joined.proofs.Calls.{returns_at, timed_on}
 use Rattle.qn_joined.proofs.Frames.{Knows, one_moves}
@@ -198,17 +198,17 @@ module _ (s : Settings) (t : Timing) (rank : ℕ) (events : List Event) (host : 
 
   stays : (spot : Spot) → IsNodeIn s rank (at host spot) w → host.on ≡ true → host.asked ≡ true → waits_for s rank (at host spot) ≡ Some (blank made) → MayAnswer rank (at host spot) sent made
       → is_looking spot ≡ false
-      → Moved s t rank events (returned s rank made (time w.moments) (at host spot))
+      → Moved s t (Hands rank (entry_handed spot made)) rank events (returned s rank made (time w.moments) (at host spot))
   stays spot is on asked waits answer apart =
       no_event may
       (returns_at host made (time w.moments) spot sent (λ lives. logs events rank may below) is on asked waits answer (λ bytes p there spelled c. knows rank bytes p there spelled c) apart)
 
   moved : (spot : Spot) → IsNodeIn s rank (at host spot) w → host.on ≡ true → host.asked ≡ true → waits_for s rank (at host spot) ≡ Some (blank made) → MayAnswer rank (at host spot) sent made
-      → Moved s t rank events (returned s rank made (time w.moments) (at host spot))
+      → Moved s t (Hands rank (entry_handed spot made)) rank events (returned s rank made (time w.moments) (at host spot))
   unfolding left_plan
   moved (Looking chosen) is on asked waits answer =
       let now = now_made made waits in
-      subst (λ c. Moved s t rank events (returned s rank c (time w.moments) (at host (Looking chosen)))) (sym now.1)
+      subst (λ c. Moved s t (Hands rank (entry_handed (Looking chosen) c)) rank events (returned s rank c (time w.moments) (at host (Looking chosen)))) (sym now.1)
       (looks_in_world s t logs rank events host chosen now.0 below may is on asked (subst (λ c. MayAnswer rank (at host (Looking chosen)) sent c) now.1 answer))
   moved (Receiving st) is on asked waits answer = stays (Receiving st) is on asked waits answer refl
   moved (Acting entry outs o rest st) is on asked waits answer = stays (Acting entry outs o rest st) is on asked waits answer refl
@@ -241,13 +241,14 @@ first_fed s rank base now host = returned_fed s rank (call.Now (tick_of base)) n
 
 pub returns_in_world : (s : Settings) (t : Timing) (events : List Event) (j : Joint) (rank : ℕ) (made : Call)
     → PacketsReadBack → LogsHold s t → rank < length s.nodes
-    → AllMay s t events → IsWorld s t j (run s t events) → FitsImage s t → MayHappen s t (joints.Returns rank made) j → HasGrown s t events (happens s (joints.Returns rank made) j)
+    → AllMay s t events → IsWorld s t j (run s t events) → FitsImage s t → MayHappen s t (joints.Returns rank made) j → HasStepped s t (IsEventOf (joints.Returns rank made) j) events (happens s (joints.Returns rank made) j)
 unfolding happens
 returns_in_world s t events j rank made back logs below may is fits happen =
-    subst (λ k. HasGrown s t events (record (with_host rank (returned s rank made k (j.hosts rank)) j) { sent = j.sent ++ sent_by made })) is.time
+    subst (λ k. HasStepped s t (IsEventOf (joints.Returns rank made) j) events (record (with_host rank (returned s rank made k (j.hosts rank)) j) { sent = j.sent ++ sent_by made })) is.time
     (record {
       events' = m.events';
       grew = m.grew;
+      one = m.one;
       may = m.may;
       world =
           one_moves rank (run s t m.events') (returned s rank made (time w.moments) (j.hosts rank)) j.image (j.sent ++ sent_by made) is below m.changes m.node
@@ -259,7 +260,7 @@ returns_in_world s t events j rank made back logs below may is fits happen =
     w : World
     w = run s t events
 
-    m : Moved s t rank events (returned s rank made (time w.moments) (j.hosts rank))
+    m : Moved s t (IsEventOf (joints.Returns rank made) j) rank events (returned s rank made (time w.moments) (j.hosts rank))
     m = moved s t rank events (j.hosts rank) made j.sent logs below may is.sent (j.hosts rank).stand.spot (is.nodes rank below) happen.on happen.asked happen.waits happen.answer
 
     fed_same : (c : Call) → (returned s rank c (time w.moments) (j.hosts rank)).fed ≡ (j.hosts rank).fed

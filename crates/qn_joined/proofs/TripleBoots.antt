@@ -23,7 +23,8 @@ use Rattle.qn_joined.specs.TripleJoints as joints
 use Rattle.qn_joined.specs.TripleJoints.{TripleHost, happens_triple, looked_first_triple, with_triple}
 use Rattle.qn_joined.specs.TripleNodes.{HasTripleWorld, IsNodeOnThree, KeepsAWorld}
 use Rattle.qn_joined.specs.WorldOf.{AreAmong, NoCall, IsFresh}
-use Rattle.qn_joined.proofs.Boots.{boot_allowed, boot_event, boot_ranked, boots_as_node, unasked_idle, unasked_off}
+use Rattle.qn_joined.specs.Moves.{boot_event}
+use Rattle.qn_joined.proofs.Boots.{boot_allowed, boot_ranked, boots_as_node, unasked_idle, unasked_off}
 use Rattle.qn_joined.proofs.Frames.{grows_more}
 use Rattle.qn_joined.proofs.Returns.{first_fed}
 use Rattle.qn_joined.proofs.TripleFrames.{ChangesOnThree, IsNodeIn3, MovedOnThree, moved_triple, one_of_three}

@@ -1,5 +1,5 @@
 -- Every joint has a world.
-use Rattle.std.proofs.Common.{◌≡◌, ◌<◌, ◌≤◌, ◌+◌, ℕ, true, false, List, [], ◌∷◌, ◌++◌, None, refl, sym, subst, arith}
+use Rattle.std.proofs.Common.{◌≡◌, ◌<◌, ◌≤◌, ◌+◌, ℕ, true, false, List, [], ◌∷◌, ◌++◌, Option, None, refl, sym, subst, arith}
 use Rattle.std.specs.Prelude.{length, nat_le}
 use Rattle.std.specs.Option.{option_map_or}
 use Rattle.qn_model.specs.declared.configuration.Settings.{Settings}
@@ -12,7 +12,7 @@ use Rattle.qn_model.specs.World.{first_world}
 use Rattle.qn_safety.specs.NodeLogs.{LogsHold}
 use Rattle.qn_joined.specs.Joints as joints
 use Rattle.qn_joined.specs.Joints.{AllMayHappen, FitsImage, Happening, Host, IsJoined, IsNewImage, Joint, MayHappen, began, ended, first_joint, happens, joint_after, looked_first, never_on, with_host}
-use Rattle.qn_joined.specs.Moves.{Moved}
+use Rattle.qn_joined.specs.Moves.{EachIsOneEvent, HasStepped, IsEventOf, Moved}
 use Rattle.qn_safety.specs.AnyNumbers.{AllMay}
 use Rattle.qn_joined.specs.Theorem.{MailsReadBack, PacketsReadBack, TakesAlike}
 use Rattle.qn_joined.specs.WorldOf.{NoCall, EveryJointHasAWorld, HasGrown, HasWorld, WorldsGrow, IsImage, IsNode, IsWorld}
@@ -56,7 +56,7 @@ new_is_image s t image created =
       mails = λ r below. (None, tt, created.mails r below);
     }
 
-first_is_world : (s : Settings) (t : Timing) (image : ℕ → List ℕ) → IsNewImage s t image → IsWorld s t (first_joint image) (run s t [])
+pub first_is_world : (s : Settings) (t : Timing) (image : ℕ → List ℕ) → IsNewImage s t image → IsWorld s t (first_joint image) (run s t [])
 unfolding run time packets
 first_is_world s t image created =
     record {
@@ -70,23 +70,27 @@ first_is_world s t image created =
     }
 
 -- one host moved on
-moved_world : {s : Settings} {t : Timing} {j : Joint} {events : List Event} (rank : ℕ) (host : Host) → IsWorld s t j (run s t events) → FitsImage s t → rank < length s.nodes
-    → Moved s t rank events host → host.fed ≤ j.time → HasGrown s t events (with_host rank host j)
-moved_world {s} {t} {j} {events} rank host is fits below m fed =
+moved_world : {s : Settings} {t : Timing} {P : Option Event → Type 0} {j : Joint} {events : List Event} (rank : ℕ) (host : Host) → IsWorld s t j (run s t events) → FitsImage s t → rank < length s.nodes
+    → Moved s t P rank events host → host.fed ≤ j.time → HasStepped s t P events (with_host rank host j)
+moved_world {s} {t} {P} {j} {events} rank host is fits below m fed =
     record {
       events' = m.events';
       grew = m.grew;
+      one = m.one;
       may = m.may;
       world =
           one_moves rank (run s t m.events') host j.image j.sent is below m.changes m.node fed (same_image is.image fits (run s t m.events') m.slots m.mailboxes)
           (knows_grows j.sent (packets s (run s t events).moments) (packets s (run s t m.events').moments) m.changes.grows is.sent);
     }
 
-pub world_of : {s : Settings} {t : Timing} {events : List Event} {j : Joint} → HasGrown s t events j → HasWorld s t j
-world_of grown = record { events = grown.events'; may = grown.may; world = grown.world }
+pub world_of : {s : Settings} {t : Timing} {P : Option Event → Type 0} {events : List Event} {j : Joint} → HasStepped s t P events j → HasWorld s t j
+world_of stepped = record { events = stepped.events'; may = stepped.may; world = stepped.world }
+
+grown_world : {s : Settings} {t : Timing} {events : List Event} {j : Joint} → HasGrown s t events j → HasWorld s t j
+grown_world grown = record { events = grown.events'; may = grown.may; world = grown.world }
 
 module _ (s : Settings) (t : Timing) (alike : TakesAlike s t) (logs : LogsHold s t) (packets_back : PacketsReadBack) (mails_back : MailsReadBack) (fits : FitsImage s t) where
-  pub one_happens : (j : Joint) (happening : Happening) → (has : HasWorld s t j) → MayHappen s t happening j → HasGrown s t has.events (happens s happening j)
+  pub one_happens : (j : Joint) (happening : Happening) → (has : HasWorld s t j) → MayHappen s t happening j → HasStepped s t (IsEventOf happening j) has.events (happens s happening j)
   unfolding happens
   one_happens j (joints.Passes dt clocks) has may = passes_in_world s t has.events j dt clocks has.may has.world fits may
   one_happens j (joints.Begins rank clean leave polls turns) has may =
@@ -95,7 +99,7 @@ module _ (s : Settings) (t : Timing) (alike : TakesAlike s t) (logs : LogsHold s
   one_happens j (joints.Looks rank base) has may =
       let w = run s t has.events in
       let below = configured has rank may.0 in
-      subst (λ k. HasGrown s t has.events (with_host rank (looked_first s rank base k (j.hosts rank)) j)) has.world.time
+      subst (λ k. HasStepped s t (IsEventOf (joints.Looks rank base) j) has.events (with_host rank (looked_first s rank base k (j.hosts rank)) j)) has.world.time
       (moved_world rank (looked_first s rank base (time w.moments) (j.hosts rank)) has.world fits below
       (boots_in_world s t logs rank has.events (j.hosts rank) base below has.may (has.world.nodes rank below) may.0 may.1 (subst (λ k. (j.hosts rank).fed ≤ k) (sym has.world.time) (has.world.fed rank)))
       (subst (λ f. f ≤ j.time) (sym (first_fed s rank base (time w.moments) (j.hosts rank))) (has.world.fed rank)))
@@ -106,7 +110,7 @@ module _ (s : Settings) (t : Timing) (alike : TakesAlike s t) (logs : LogsHold s
   one_happens j (joints.Feeds rank) has may =
       let w = run s t has.events in
       let below = configured has rank may.0 in
-      subst (λ k. HasGrown s t has.events (with_host rank (record (j.hosts rank) { fed = k }) j)) has.world.time
+      subst (λ k. HasStepped s t (IsEventOf (joints.Feeds rank) j) has.events (with_host rank (record (j.hosts rank) { fed = k }) j)) has.world.time
       (moved_world rank (record (j.hosts rank) { fed = time w.moments }) has.world fits below
       (feeds_in_world s t rank has.events (j.hosts rank) has.may (has.world.nodes rank below)
       (subst (λ k. option_map_or (λ decided. nat_le k (decided + t.feed_delay)) (j.hosts rank).decided false ≡ true) (sym has.world.time) may.1))
@@ -125,11 +129,11 @@ module _ (s : Settings) (t : Timing) (alike : TakesAlike s t) (logs : LogsHold s
 
   grows_on : (image : ℕ → List ℕ) (newer older : List Happening) → AllMayHappen s t image (newer ++ older) → (has : HasWorld s t (joint_after s image older))
       → HasGrown s t has.events (joint_after s image (newer ++ older))
-  unfolding joint_after AllMayHappen world_of one_happens
+  unfolding joint_after AllMayHappen grown_world world_of one_happens
   grows_on image [] older may has = record { events' = has.events; grew = Itself; may = has.may; world = has.world }
   grows_on image (newest ∷ newer) older may has =
       let before = grows_on image newer older may.1 has in
-      let after = one_happens (joint_after s image (newer ++ older)) newest (world_of before) may.0 in
+      let after = one_happens (joint_after s image (newer ++ older)) newest (grown_world before) may.0 in
       record { events' = after.events'; grew = before_then before.grew after.grew; may = after.may; world = after.world }
 
 pub every_joint_has_a_world : (s : Settings) (t : Timing) → TakesAlike s t → LogsHold s t → PacketsReadBack → MailsReadBack → EveryJointHasAWorld s t
@@ -139,3 +143,7 @@ every_joint_has_a_world s t alike logs packets_back mails_back image happenings 
 pub worlds_grow : (s : Settings) (t : Timing) → TakesAlike s t → LogsHold s t → PacketsReadBack → MailsReadBack → WorldsGrow s t
 worlds_grow s t alike logs packets_back mails_back image newer older joined has =
     grows_on s t alike logs packets_back mails_back joined.fits image newer older joined.may has
+
+pub each_is_one_event : (s : Settings) (t : Timing) → TakesAlike s t → LogsHold s t → PacketsReadBack → MailsReadBack → EachIsOneEvent s t
+each_is_one_event s t alike logs packets_back mails_back j happening fits has may =
+    one_happens s t alike logs packets_back mails_back fits j happening has may

@@ -1,24 +1,33 @@
 -- What one call that returns does to the world of a joint: this project's profile.
-use Rattle.std.specs.Prelude.{◌≡◌, ◌<◌, ◌≤◌, ℕ, Bool, true, false, List, Option, ◌==◌, ◌+◌, length, nat_le}
-use Rattle.std.specs.Option.{option_map_or}
+use Rattle.std.specs.Prelude.{◌≡◌, ◌<◌, ◌≤◌, ℕ, Bool, true, false, List, [], ◌++◌, Option, None, Some, ◌==◌, ◌+◌, length, nat_le}
+use Rattle.std.specs.Option.{option_map_or, option_to_list}
+use Rattle.qn_base.specs.declared.calls.Call.{Call}
 use Rattle.qn_base.specs.declared.calls.Call.TheVariants as call
 use Rattle.qn_model.specs.declared.configuration.Settings.{Settings}
 use Rattle.qn_model.specs.declared.times.Timing.{Timing}
+use Rattle.qn_base.specs.declared.ids.View.{View}
 use Rattle.qn_model.specs.declared.entries.What.{What}
+use Rattle.qn_model.specs.declared.entries.What.TheVariants as what
 use Rattle.qn_model.specs.declared.events.Event.{Event}
+use Rattle.qn_model.specs.declared.events.Event.TheVariants as event
 use Rattle.qn_model.specs.declared.outputs.DiskOp.{DiskOp}
 use Rattle.qn_model.specs.declared.packets.Packet.{Packet}
 use Rattle.qn_model.specs.declared.packets.Sent.{Sent}
 use Rattle.qn_model.specs.Moments.{Before, Running, packets, tick_of, time}
 use Rattle.qn_model.specs.Steps.{run}
+use Rattle.qn_model.specs.Wanted.{rank_of}
 use Rattle.qn_model.specs.World.{World, node_at}
+use Rattle.qn_io.specs.Answered.{time_of}
 use Rattle.qn_live.specs.declared.place.Choice.{Choice}
+use Rattle.qn_live.specs.Polling.{answered}
 use Rattle.qn_live.specs.Running.{RunState}
-use Rattle.qn_joined.specs.Joints.{Host, began, ended, looked_first, returned}
+use Rattle.qn_live.specs.Runs.{looked_at}
+use Rattle.qn_joined.specs.Joints as joints
+use Rattle.qn_joined.specs.Joints.{FitsImage, Happening, Host, IsNewImage, Joint, MayHappen, began, ended, first_joint, happens, looked_first, returned}
 use Rattle.qn_joined.specs.Nodes.{at}
 use Rattle.qn_safety.specs.AnyNumbers.{AllMay}
-use Rattle.qn_joined.specs.Stands.{Looking}
-use Rattle.qn_joined.specs.WorldOf.{IsNode, WasSentTo}
+use Rattle.qn_joined.specs.Stands.{Spot, Receiving, Looking, Acting, Polling, Saying, Parting, Ended}
+use Rattle.qn_joined.specs.WorldOf.{HasWorld, IsNode, IsWorld, WasSentTo}
 
 -- every packet that was sent is among those that were sent later
 abbrev pub Grows : List Sent → List Sent → Type 0
@@ -37,10 +46,74 @@ abbrev pub IsNodeIn : Settings → ℕ → Host → World → Type 0
 IsNodeIn s rank host w =
     IsNode s rank host (node_at s rank w) (w.took rank) (w.left rank) (packets s w.moments)
 
+-- an event that is no pass, no boot, no view and no answer of the device
+abbrev pub is_plain : Event → Bool
+is_plain (event.Pass dt clocks) = false
+is_plain (event.Boot rank base) = false
+is_plain (event.BootClean rank base) = false
+is_plain (event.View rank view) = false
+is_plain (event.Device rank agrees) = false
+is_plain (event.Crash rank) = true
+is_plain (event.Land rank) = true
+is_plain (event.Done rank) = true
+is_plain (event.Fail rank) = true
+is_plain (event.Late rank number) = true
+is_plain (event.Deliver rank number) = true
+is_plain (event.Tick rank) = true
+is_plain (event.Stopped rank) = true
+is_plain (event.Unstopped rank) = true
+is_plain (event.Leave rank) = true
+is_plain (event.Feed rank) = true
+is_plain (event.Operator rank sent) = true
+
+-- an event, if one is, that hands a rank no view and no answer of the device but this entry
+pub data Hands (rank : ℕ) (entry : Option What) : Option Event → Type 0 where
+  Nothing : Hands rank entry None
+  Plainly : {of : Event} → is_plain of ≡ true → Hands rank entry (Some of)
+  AView : (view : View) → entry ≡ Some (what.View view) → Hands rank entry (Some (event.View (rank_of rank) view))
+  AnAnswer : (agrees : Bool) → entry ≡ Some (what.Device agrees) → Hands rank entry (Some (event.Device (rank_of rank) agrees))
+
+-- the boot of a rank, clean or not
+abbrev pub boot_event : ℕ → ℕ → Bool → Event
+boot_event rank base false = event.Boot (rank_of rank) base
+boot_event rank base true = event.BootClean (rank_of rank) base
+
+abbrev pub IsBoot : ℕ → ℕ → Option Event → Type 0
+IsBoot rank base found = (clean : Bool) × (found ≡ Some (boot_event rank base clean))
+
+-- the entry that a call hands where a run stands, if it hands one
+abbrev pub entry_handed : Spot → Call → Option What
+entry_handed (Looking chosen) made = Some (looked_at (time_of made) (answered (time_of made) chosen)).1
+entry_handed (Receiving st) made = None
+entry_handed (Acting entry outs o rest st) made = None
+entry_handed (Polling poll sents st) made = None
+entry_handed (Saying sent rest st) made = None
+entry_handed (Parting end sent rest st) made = None
+entry_handed (Ended ran) made = None
+
+-- which event of the world a happening is, if it is one
+abbrev pub IsEventOf : Happening → Joint → Option Event → Type 0
+IsEventOf (joints.Passes dt clocks) j found = found ≡ Some (event.Pass dt clocks)
+IsEventOf (joints.Looks rank base) j found = IsBoot rank base found
+IsEventOf (joints.Returns rank made) j found = Hands rank (entry_handed (j.hosts rank).stand.spot made) found
+IsEventOf (joints.Begins rank clean leave polls turns) j found = Hands rank None found
+IsEventOf (joints.Lands rank) j found = Hands rank None found
+IsEventOf (joints.Feeds rank) j found = Hands rank None found
+IsEventOf (joints.LandsLate rank number) j found = Hands rank None found
+IsEventOf (joints.Ends rank) j found = Hands rank None found
+IsEventOf (joints.Operates rank sent) j found = Hands rank None found
+
+-- one event more at most, which is so
+pub record AddsOne (P : Option Event → Type 0) (events events' : List Event) : Type 0 where
+  pub event : Option Event
+  pub is : P event
+  pub grew : events' ≡ option_to_list event ++ events
+
 -- further events, of that rank alone and none of the image, after which a host is the node of the rank
-pub record Moved (s : Settings) (t : Timing) (rank : ℕ) (events : List Event) (host : Host) : Type 0 where
+pub record Moved (s : Settings) (t : Timing) (P : Option Event → Type 0) (rank : ℕ) (events : List Event) (host : Host) : Type 0 where
   pub events' : List Event
   pub grew : Before events events'
+  pub one : AddsOne P events events'
   pub may : AllMay s t events'
   pub changes : Changes s rank (run s t events) (run s t events')
   pub slots : (run s t events').slots ≡ (run s t events).slots
@@ -57,7 +130,7 @@ LooksInWorld s t =
     → host.on ≡ true
     → host.asked ≡ true
     → tick ≡ tick_of host.clock
-    → Moved s t rank events
+    → Moved s t (Hands rank (Some (looked_at tick (answered tick chosen)).1)) rank events
     (returned s rank (call.Now tick) (time (run s t events).moments) (at host (Looking chosen)))
 
 -- the first look at the clock is the boot of the node
@@ -70,7 +143,7 @@ BootsInWorld s t =
     → host.on ≡ true
     → host.asked ≡ false
     → host.fed ≤ time (run s t events).moments
-    → Moved s t rank events
+    → Moved s t (IsBoot rank base) rank events
     (looked_first s rank base (time (run s t events).moments) host)
 
 -- a process that begins is a node that is off
@@ -89,7 +162,7 @@ FeedsInWorld s t =
     → AllMay s t events
     → IsNodeIn s rank host (run s t events)
     → option_map_or (λ decided. nat_le (time (run s t events).moments) (decided + t.feed_delay)) host.decided false ≡ true
-    → Moved s t rank events (record host { fed = time (run s t events).moments })
+    → Moved s t (Hands rank None) rank events (record host { fed = time (run s t events).moments })
 
 -- a machine that is off is one event where the node takes part in time, and else none
 abbrev pub EndsInWorld : Settings → Timing → Type 0
@@ -99,4 +172,25 @@ EndsInWorld s t =
     → AllMay s t events
     → IsNodeIn s rank host (run s t events)
     → host.on ≡ true
-    → Moved s t rank events (ended s rank host)
+    → Moved s t (Hands rank None) rank events (ended s rank host)
+
+-- what happens leads from a joint that has a world to one whose world has one event more at most, which is so
+pub record HasStepped (s : Settings) (t : Timing) (P : Option Event → Type 0) (events : List Event) (j : Joint) : Type 0 where
+  pub events' : List Event
+  pub grew : Before events events'
+  pub one : AddsOne P events events'
+  pub may : AllMay s t events'
+  pub world : IsWorld s t j (run s t events')
+
+-- each thing that happens is one event of the world at most, which is its event
+abbrev pub EachIsOneEvent : Settings → Timing → Type 0
+EachIsOneEvent s t =
+    (j : Joint) (happening : Happening)
+    → FitsImage s t
+    → (has : HasWorld s t j)
+    → MayHappen s t happening j
+    → HasStepped s t (IsEventOf happening j) has.events (happens s happening j)
+
+-- a new image with every machine off is the world before anything happened
+abbrev pub NewImageIsWorld : Settings → Timing → Type 0
+NewImageIsWorld s t = (image : ℕ → List ℕ) → IsNewImage s t image → IsWorld s t (first_joint image) (run s t [])

@@ -7,7 +7,7 @@ ghost use Rattle.qn_model.specs.declared.times.Timing.{Timing};
 ghost use Rattle.qn_joined.specs.Theorem.{AlwaysOwns, AtMostOneRuns, MailsReadBack, OneAfterAnother, OwnerIsReset, PacketsReadBack, RunsAreRuns, TakesAlike};
 ghost use Rattle.qn_joined.specs.WorldOf.{EveryJointHasAWorld, WorldsGrow};
 ghost use Rattle.qn_joined.specs.AnyImage.{AtMostOneRunsAgain, EveryJointHasAWorldAgain, NewImagesAreLeft};
-ghost use Rattle.qn_joined.specs.Moves.{BeginsAsNode, BootsInWorld, EndsInWorld, FeedsInWorld, LooksInWorld};
+ghost use Rattle.qn_joined.specs.Moves.{BeginsAsNode, BootsInWorld, EachIsOneEvent, EndsInWorld, FeedsInWorld, LooksInWorld, NewImageIsWorld};
 ghost use Rattle.qn_joined.specs.Nodes.{LooksAsNode, ReturnsAsNode};
 ghost use Rattle.qn_model.specs.Timing.{is_safe};
 ghost use Rattle.qn_live.specs.Runs.{live_plan};
@@ -48,6 +48,19 @@ pub fn law_worlds()
 /// of the other.
 pub fn law_worlds_grow()
     ensures { (s : Settings) (t : Timing) → WorldsGrow s t }
+{
+    law_node_logs();
+    law_takes_alike();
+    law_packets_read_back();
+    law_mails_read_back();
+}
+
+/// Law: each thing that happens to a joint that has a world is one event of that world at most: a pass, the boot of a node, what a look
+/// at the clock hands it, or an event that hands no view and no answer of the device. A new image, with every machine off, has the
+/// world before any event.
+pub fn law_each_is_one_event()
+    ensures first { (s : Settings) (t : Timing) → NewImageIsWorld s t }
+    ensures one { (s : Settings) (t : Timing) → EachIsOneEvent s t }
 {
     law_node_logs();
     law_takes_alike();

@@ -3,7 +3,7 @@
 //! `specs/Joints` says what may happen to them, call by call and byte by byte, and `specs/WorldOf` which world that is. Promises:
 //! at most one resource runs at any moment, for all safe times (`law_one_owner`), also where all began on an image that nodes and
 //! operators left (`law_one_owner_again`). Each such run is a run of the world (`law_worlds`), and a longer one is a run of a longer
-//! world (`law_worlds_grow`): a call that returns leaves a running node the node that it was (`law_returns_as_node`), a look at the clock is
+//! world (`law_worlds_grow`). Each thing that happens is one event of it at most (`law_each_is_one_event`): a call that returns leaves a running node the node that it was (`law_returns_as_node`), a look at the clock is
 //! one event (`law_looks_in_world`), and so are a boot, a feed and the end of a machine (`law_boots_in_world`,
 //! `law_feeds_in_world`, `law_ends_in_world`). It rests on what holds of the logs of a world (`qn_safety::law_node_logs`). Beside
 //! it: a run that stands between two calls as a value (`law_stands`), the calls of each process are the beginning of a run of its node
@@ -28,11 +28,11 @@ mod laws;
 mod triple_laws;
 
 pub use laws::{
-    law_begins_as_node, law_boots_in_world, law_ends_in_world, law_feeds_in_world,
-    law_joints_are_met, law_looks_as_node, law_looks_in_world, law_mails_read_back,
-    law_new_images_are_left, law_one_owner, law_one_owner_again, law_owned, law_owner_is_reset,
-    law_packets_read_back, law_processes, law_returns_as_node, law_returns_own, law_stands,
-    law_takes_alike, law_worlds, law_worlds_again, law_worlds_grow,
+    law_begins_as_node, law_boots_in_world, law_each_is_one_event, law_ends_in_world,
+    law_feeds_in_world, law_joints_are_met, law_looks_as_node, law_looks_in_world,
+    law_mails_read_back, law_new_images_are_left, law_one_owner, law_one_owner_again, law_owned,
+    law_owner_is_reset, law_packets_read_back, law_processes, law_returns_as_node, law_returns_own,
+    law_stands, law_takes_alike, law_worlds, law_worlds_again, law_worlds_grow,
 };
 pub use triple_laws::{
     law_triple_begins, law_triple_calls, law_triple_ends, law_triple_feeds,

@@ -1,6 +1,6 @@
 //! What a node hears of the arbiter that it polls.
+use crate::entered::Entered;
 use crate::text::Text;
-use qn_model::What;
 use std::net::SocketAddr;
 
 /// How long nothing more is told of an arbiter that stays silent, in milliseconds.
@@ -33,28 +33,14 @@ impl DeviceNews {
 
     /// The node was handed that entry at that tick, and its view has that number then. The answer of the arbiter, where that is to be told: in
     /// each view the first one, and each other one.
-    pub(crate) fn take(&mut self, entry: What, tick: u64, view: u64) -> Option<bool> {
-        match entry {
-            What::Device(agrees) => self.hear(agrees, tick, view),
-            What::View(_) => {
+    pub(crate) fn take(&mut self, entered: Entered, tick: u64, view: u64) -> Option<bool> {
+        match entered {
+            Entered::Device(agrees) => self.hear(agrees, tick, view),
+            Entered::View => {
                 self.answer = None;
                 None
             }
-            What::Begin
-            | What::BeginClean
-            | What::Header(_)
-            | What::SlotRead(..)
-            | What::Claimed(_)
-            | What::Cleared(_)
-            | What::MailChecked(_)
-            | What::MailRead(_)
-            | What::MailWritten(..)
-            | What::Ask(_)
-            | What::Tell(_)
-            | What::Tick
-            | What::Stopped(_)
-            | What::Leave
-            | What::Closed(_) => None,
+            Entered::Header(_) | Entered::Mail(_) | Entered::Nothing => None,
         }
     }
 

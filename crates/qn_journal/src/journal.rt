@@ -4,7 +4,9 @@ ghost use Rattle.qn_io.specs.Receives.{FitsPacket};
 use crate::arbiter::ArbiterNews;
 use crate::device::DeviceNews;
 use crate::ending::end_text;
+use crate::entered::Entered;
 use crate::group_file::group_of_file;
+use crate::images::{IMAGE, Images};
 use crate::mail::{MailNews, MailState, Mailbox};
 use crate::node_names::NodeNames;
 use crate::peers::Peers;
@@ -17,27 +19,28 @@ use qn_io::Got;
 use qn_leases::ArbiterNotices;
 use qn_live::{Asked, Given, LiveEnd, NodeRun, Notices, Room, Standing};
 use qn_machine::{Lines, ReplacedFile};
-use qn_model::{HeaderSeen, MailSeen, Packet, Phase, Settings, What};
+use qn_model::{MailSeen, Packet, Phase, Settings};
 use qn_notice::{Event, Observer};
 use qn_polls::get_reply;
 use qn_safety::{Lease, Poll};
 use qn_sector::{get_mail, mail_sector};
 use qn_told::{
-    device_answered, device_silent, ended, event_line, feeds_failed, mail_damaged, mail_failed,
-    mail_told, packets_refused, peer_lost, peer_seen,
+    device_answered, device_silent, ended, event_line, feeds_failed, image_back, image_lost,
+    mail_damaged, mail_failed, mail_told, network_back, network_lost, packets_refused, peer_lost,
+    peer_seen,
 };
 use qn_wire::get_packet;
 use std::fs::File;
 use std::rt::Files;
 use std::time::Clock;
 
-/// How many sectors an image of three has.
-const IMAGE: u32 = 1024;
-
 /// The kinds of what the node's own host hands it: that it is to leave, and what this host says of it.
 const LEAVE: u8 = 12;
 
 const WORD: u8 = 13;
+
+/// The most nodes.
+const NODES: usize = 32;
 
 /// The most bytes of a name.
 const MOST_NAME: usize = 63;
@@ -63,6 +66,7 @@ pub struct Journal<'a, R: Files<File = File> + Clock + Eprint> {
     observer: Observer,
     arbiter: ArbiterNews,
     device: DeviceNews,
+    images: Images,
     /// How long the times of the header have a reset be waited for, in milliseconds; 0 before.
     msgwait: u64,
     mailbox: Mailbox,
@@ -102,6 +106,7 @@ impl<'a, R: Files<File = File> + Clock + Eprint> Journal<'a, R> {
             observer: Observer::new(),
             arbiter: ArbiterNews::new(),
             device: DeviceNews::default(),
+            images: Images::default(),
             msgwait: 0,
             mailbox: Mailbox::new(),
             peers: Peers::new(),
@@ -129,15 +134,17 @@ impl<'a, R: Files<File = File> + Clock + Eprint> Journal<'a, R> {
     /// A turn began at that tick, with what it was handed.
     fn turn(&mut self, tick: u64, run: &NodeRun) {
         self.turns = self.turns.saturating_add(1);
-        if let What::Header(HeaderSeen::Read { timing, .. }) = run.entry() {
-            self.msgwait = timing.msgwait;
-        }
-        if let Some(seen) = mail_in(run.entry()) {
-            self.take_mail(seen, tick);
+        let entered = Entered::of(run.entry());
+        match entered {
+            Entered::Header(msgwait) => self.msgwait = msgwait,
+            Entered::Mail(seen) => self.take_mail(seen, tick),
+            Entered::View | Entered::Device(_) | Entered::Nothing => {}
         }
         self.greet(tick, run);
         self.miss(tick, run);
-        self.tell_device(tick, run);
+        self.tell_networks(run);
+        self.tell_device(entered, tick, run);
+        self.tell_image();
     }
 
     /// Has the others told how this node is, at once where it begins or ends to hold, and once a loop; then it is looked how its group is.
@@ -150,7 +157,8 @@ impl<'a, R: Files<File = File> + Clock + Eprint> Journal<'a, R> {
             self.telling.group = group_of_file(self.rt, path, tick);
         }
         if let Some(told) = self.telling.telling(tick, &standing) {
-            self.lines.voices().tell(told);
+            let nodes = run.settings().nodes.len().min(NODES);
+            self.lines.voices().tell(told, nodes as u8);
         }
     }
 
@@ -175,22 +183,63 @@ impl<'a, R: Files<File = File> + Clock + Eprint> Journal<'a, R> {
     fn miss(&mut self, tick: u64, run: &NodeRun) {
         for (rank, node) in run.settings().nodes.as_slice().iter().enumerate() {
             if let Some(silent) = self.peers.lose(rank, tick, run.loop_ms()) {
-                let mut line = peer_lost(self.now(), node.id, silent);
-                add_name(&mut line, self.names.at(rank));
-                self.say(&line);
+                let line = peer_lost(self.now(), node.id, silent);
+                self.say_of(line, rank);
             }
         }
     }
 
+    /// Tells of a network that is lost to another node, or is back, once the loop's time is known.
+    fn tell_networks(&mut self, run: &NodeRun) {
+        if run.loop_ms() == 0 {
+            return;
+        }
+        self.lines.voices().set_loop(run.loop_ms());
+        for (rank, node) in run.settings().nodes.as_slice().iter().enumerate() {
+            let lost = self.lines.voices().lost_network(rank);
+            let before = self.peers.lose_network(rank, lost);
+            if before == lost {
+                continue;
+            }
+            if let Some(network) = before {
+                let line = network_back(self.now(), network, node.id);
+                self.say_of(line, rank);
+            }
+            if let Some(network) = lost {
+                let line = network_lost(self.now(), network, node.id);
+                self.say_of(line, rank);
+            }
+        }
+    }
+
+    /// Says a line about the node of that rank.
+    fn say_of(&mut self, mut line: EventLine, rank: usize) {
+        add_name(&mut line, self.names.at(rank));
+        self.say(&line);
+    }
+
     /// Tells of the arbiter that the node polls: its answer, and that it is silent.
-    fn tell_device(&mut self, tick: u64, run: &NodeRun) {
+    fn tell_device(&mut self, entered: Entered, tick: u64, run: &NodeRun) {
         let view = run.standing().view.map_or(0, |(_, view)| view.id % NAMES);
-        if let Some(agrees) = self.device.take(run.entry(), tick, view) {
+        if let Some(agrees) = self.device.take(entered, tick, view) {
             let line = device_answered(self.now(), agrees, view);
             self.say(&line);
         }
         if let Some(age) = self.device.miss(tick, timeout_of(run)) {
             let line = device_silent(self.now(), age);
+            self.say(&line);
+        }
+    }
+
+    /// Tells of one of three images that it is lost, or is back.
+    fn tell_image(&mut self) {
+        if let Some(news) = self.images.news() {
+            let at = self.now();
+            let line = if news.is_lost {
+                image_lost(at, news.image)
+            } else {
+                image_back(at, news.image)
+            };
             self.say(&line);
         }
     }
@@ -299,6 +348,7 @@ impl<'a, R: Files<File = File> + Clock + Eprint> Journal<'a, R> {
             voices: self.lines.voices(),
             telling: &self.telling,
             device: &self.device,
+            images: self.images.count(),
             timeout: timeout_of(run),
             counts: Counts {
                 dropped: self.lines.dropped(),
@@ -386,28 +436,6 @@ fn shown_standing(run: &NodeRun) -> Standing {
     }
 }
 
-/// What of its mailbox a node was handed by an entry.
-fn mail_in(entry: What) -> Option<MailSeen> {
-    match entry {
-        What::MailChecked(seen) | What::MailRead(seen) => Some(seen),
-        What::Begin
-        | What::BeginClean
-        | What::Header(_)
-        | What::SlotRead(..)
-        | What::Claimed(_)
-        | What::Cleared(_)
-        | What::MailWritten(..)
-        | What::View(_)
-        | What::Ask(_)
-        | What::Tell(_)
-        | What::Device(_)
-        | What::Tick
-        | What::Stopped(_)
-        | What::Leave
-        | What::Closed(_) => None,
-    }
-}
-
 impl<'a, R: Files<File = File> + Clock + Eprint> Notices for Journal<'a, R> {
     fn made(&mut self, asked: Asked, given: Given, room: &Room, run: &NodeRun)
         requires { FitsPacket given.got }
@@ -428,21 +456,20 @@ impl<'a, R: Files<File = File> + Clock + Eprint> Notices for Journal<'a, R> {
             Asked::Receive => if let Got::Packet(count) = given.got {
                 self.hear(&room.packet[..count]);
             },
-            Asked::Read { sector } => if given.ok {
-                self.look(sector, room, run);
-            },
+            Asked::Read { sector } => {
+                self.images.call(sector, given.ok);
+                if given.ok {
+                    self.look(sector, room, run);
+                }
+            }
+            Asked::Write { sector } => self.images.call(sector, given.ok),
             Asked::Feed => if !given.ok {
                 self.late.count();
             },
             Asked::Send { to } => if to == ARBITER && given.ok {
                 self.device.poll(run.tick());
             },
-            Asked::Now
-            | Asked::Write { .. }
-            | Asked::Start
-            | Asked::Stop
-            | Asked::Disarm
-            | Asked::Halt { .. } => {}
+            Asked::Now | Asked::Start | Asked::Stop | Asked::Disarm | Asked::Halt { .. } => {}
         }
     }
 

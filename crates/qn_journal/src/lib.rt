@@ -8,7 +8,9 @@
 mod arbiter;
 mod device;
 mod ending;
+mod entered;
 mod group_file;
+mod images;
 mod journal;
 mod mail;
 mod node_names;

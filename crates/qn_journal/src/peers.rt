@@ -11,6 +11,8 @@ pub(crate) struct Peer {
     pub(crate) hello: Option<u64>,
     /// Whether it is heard.
     is_seen: bool,
+    /// The number of the network that is lost to it, where one is.
+    lost_network: Option<u64>,
 }
 
 /// All nodes, by rank.
@@ -37,10 +39,8 @@ impl Peers {
             return false;
         };
         let is_new = !peer.is_seen;
-        *peer = Peer {
-            hello: Some(tick),
-            is_seen: true,
-        };
+        peer.hello = Some(tick);
+        peer.is_seen = true;
         is_new
     }
 
@@ -53,5 +53,13 @@ impl Peers {
         }
         peer.is_seen = false;
         Some(silent)
+    }
+
+    /// That network is lost to the node of that rank, or none is; which one was before.
+    pub(crate) fn lose_network(&mut self, rank: usize, lost: Option<u64>) -> Option<u64> {
+        let peer = self.peers.get_mut(rank)?;
+        let before = peer.lost_network;
+        peer.lost_network = lost;
+        before
     }
 }

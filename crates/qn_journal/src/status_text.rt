@@ -12,7 +12,7 @@ use qn_live::Standing;
 use qn_machine::Voices;
 use qn_model::{Nodes, Phase};
 use qn_names::{phase_name, write_why};
-use qn_shown::{Group, Heard};
+use qn_shown::{Group, Heard, HostStanding};
 
 /// The high byte of a view's number names who may start: a number below this one names nobody in particular.
 pub(crate) const NAMES: u64 = 1 << 56;
@@ -45,6 +45,8 @@ pub(crate) struct Shown<'a> {
     pub(crate) voices: &'a Voices,
     pub(crate) telling: &'a Telling,
     pub(crate) device: &'a DeviceNews,
+    /// On how many of three images it runs, where these are fewer.
+    pub(crate) images: Option<u64>,
     /// The timeout of the quorum device in milliseconds; 0 where there is none.
     pub(crate) timeout: u64,
     pub(crate) counts: Counts,
@@ -97,6 +99,10 @@ fn add_arbiter_to_loop(text: &mut Text, shown: &Shown<'_>) {
     text.truth(shown.standing.holds);
     text.add(b",\"id\":");
     text.number(u64::from(shown.nodes.id_of(shown.me).0));
+    if let Some(images) = shown.images {
+        text.add(b",\"images\":");
+        text.number(images);
+    }
     text.add(b",\"incarnation\":");
     text.maybe(shown.standing.incarnation);
     text.add(b",\"late\":");
@@ -163,6 +169,10 @@ fn add_peers(text: &mut Text, shown: &Shown<'_>) {
             text.add(b",\"id\":");
             text.number(u64::from(node.id.0));
             add_name(text, shown.names.at(rank));
+            if let Some(network) = shown.voices.lost_network(rank) {
+                text.add(b",\"network_down\":");
+                text.number(network);
+            }
             text.add(b",\"refused\":");
             text.number(shown.voices.refused(rank));
             add_heard(text, shown.voices.heard(rank));
@@ -211,6 +221,23 @@ fn add_phase_to_released(text: &mut Text, shown: &Shown<'_>) {
     text.number(shown.counts.refused);
     text.add(b",\"released\":");
     text.truth(answer.released);
+    add_standing(text, shown.voices.standing());
+}
+
+/// What the host says of its node, where it says anything.
+fn add_standing(text: &mut Text, standing: Option<HostStanding>) {
+    let Some(said) = standing else {
+        return;
+    };
+    text.add(b",\"standing\":{\"fit\":");
+    text.truth(said.fit);
+    text.add(b",\"pull\":");
+    text.truth(said.pull);
+    text.add(b",\"standby\":");
+    text.truth(said.standby);
+    text.add(b",\"weight\":");
+    text.number(u64::from(said.weight));
+    text.add(b"}");
 }
 
 fn add_tick_to_why(text: &mut Text, shown: &Shown<'_>) {

@@ -7,6 +7,7 @@ use Rattle.std.proofs.lemmas.Grind.{get_or-set_at}
 use Rattle.std.specs.declared.net.ip_addr.IpAddr.{IpAddr}
 use Rattle.qn_model.specs.declared.nodelist.NodeEntry.{NodeEntry}
 use Rattle.qn_links.specs.declared.sections.NodeSection.{NodeSection}
+use Rattle.qn_links.specs.declared.sections.Ring.{Ring}
 use Rattle.qn_links.specs.Links.{AreLinks, HasAddress, IsApartFrom, id_at}
 
 placed_at : {X : Type 0} (P : ℕ → X → Type 0) (links : List (Option X)) (r k : ℕ) (x : X) (same : Bool)
@@ -49,11 +50,11 @@ apart_at links r k x y false is fits apart here below found =
     apart_below links r k x y below (apart k (grind (arith, nat_tests)) y (sym (get_or-set_other links r k (Some x) None other) ∙ found))
 
 -- the links of one rank more
-pub links_more : (sections : List NodeSection) (nodes : List NodeEntry) (links : List (Option IpAddr)) (r : ℕ) (x : IpAddr)
-    → r < length links → AreLinks sections nodes links r → HasAddress sections (id_at nodes r) x → IsApartFrom links r x
-    → AreLinks sections nodes (slice_set links r (Some x)) (r + 1)
-links_more sections nodes links r x fits before has apart = record {
-  placed = placed_more (λ rank address. HasAddress sections (id_at nodes rank) address) links r x fits before.placed has;
+pub links_more : (ring : Ring) (sections : List NodeSection) (nodes : List NodeEntry) (links : List (Option IpAddr)) (r : ℕ) (x : IpAddr)
+    → r < length links → AreLinks ring sections nodes links r → HasAddress ring sections (id_at nodes r) x → IsApartFrom links r x
+    → AreLinks ring sections nodes (slice_set links r (Some x)) (r + 1)
+links_more ring sections nodes links r x fits before has apart = record {
+  placed = placed_more (λ rank address. HasAddress ring sections (id_at nodes rank) address) links r x fits before.placed has;
   apart = λ k below y found. apart_at links r k x y (nat_eq k r) refl fits before.apart apart below found;
   past = λ k above.
       let other : k ≢ r = λ same. grind (arith, nat_tests) in

@@ -4,3 +4,5 @@ pub mod Arbiters
 pub mod Devices
 pub mod Meaning
 pub mod Names
+pub mod Networks
+pub mod Standings

@@ -5,45 +5,47 @@ ghost use Rattle.qn_links.specs.Links.{AreLinks, HasAddress, IsApartFrom, IsOfMa
 ghost use Rattle.qn_links.specs.Faults.{Clashes, IsFirstFault, IsUnwritten};
 
 use crate::fault::LinksFault;
-use crate::sections::NodeSection;
+use crate::sections::{NodeSection, Ring};
 use qn_base::NodeId;
 use qn_model::NodeEntry;
 use std::net::IpAddr;
 
 /// The most nodes of a cluster.
-const MOST_NODES: usize = 32;
+pub(crate) const MOST_NODES: usize = 32;
 
 /// The address of each rank; None from the number of nodes on.
 pub type Links = [Option<IpAddr>; MOST_NODES];
 
-/// The address of each of these nodes, which stand in ascending id, at the place of its rank; or the first fault.
+/// The address of each of these nodes on that network, which stand in ascending id, at the place of its rank; or the first fault.
 pub fn links_of<'text>(
+    ring: Ring,
     sections: &[NodeSection<'text>],
     nodes: &[NodeEntry],
 ) -> Result<Links, LinksFault<'text>>
     requires { length nodes.now ≤ 32 }
     ensures links { IfOk result (λ links.
-        AreLinks sections.now nodes.now links (length nodes.now)) }
-    ensures fault { IfErr result (λ fault. IsFirstFault sections.now nodes.now fault) }
+        AreLinks ring sections.now nodes.now links (length nodes.now)) }
+    ensures fault { IfErr result (λ fault. IsFirstFault ring sections.now nodes.now fault) }
 {
     let mut links = [None; MOST_NODES];
     for rank in 0..nodes.len() {
-        let address = address_of(sections, nodes[rank].id)?;
+        let address = address_of(ring, sections, nodes[rank].id)?;
         apart(address, rank, &links, nodes)?;
         links[rank] = Some(address);
     }
     Ok(links)
 }
 
-/// The address that the first section of that node writes.
+/// The address on that network that the first section of that node writes.
 fn address_of<'text>(
+    ring: Ring,
     sections: &[NodeSection<'text>],
     id: NodeId,
 ) -> Result<IpAddr, LinksFault<'text>>
-    ensures has { IfOk result (λ address. HasAddress sections.now id address) }
-    ensures fault { IfErr result (λ fault. IsUnwritten sections.now id fault) }
+    ensures has { IfOk result (λ address. HasAddress ring sections.now id address) }
+    ensures fault { IfErr result (λ fault. IsUnwritten ring sections.now id fault) }
 {
-    let Some(text) = text_of(sections, id) else {
+    let Some(text) = text_of(ring, sections, id) else {
         return Err(LinksFault::NoAddress { id });
     };
     match address_of_machine(text) {
@@ -52,13 +54,13 @@ fn address_of<'text>(
     }
 }
 
-/// What the first section of that node writes as its address.
-fn text_of<'text>(sections: &[NodeSection<'text>], id: NodeId) -> Option<&'text [u8]>
-    ensures { option_map (λ written. written.now) result ≡ text_of sections.now id }
+/// What the first section of that node writes as its address on that network.
+fn text_of<'text>(ring: Ring, sections: &[NodeSection<'text>], id: NodeId) -> Option<&'text [u8]>
+    ensures { option_map (λ written. written.now) result ≡ text_of ring sections.now id }
 {
     for section in sections {
         if section.id.0 == id.0 {
-            return section.address;
+            return section.address_on(ring);
         }
     }
     None

@@ -1,10 +1,12 @@
 -- Which datagrams are handed to a node (this project's profile).
-use Rattle.std.specs.Prelude.{◌≡◌, ℕ, ◌==◌, ◌&&◌, ◌||◌, Bool, true, false, not, nat_lt, List, length, slice_index, Option, Some, None, Ok, Err}
+use Rattle.std.specs.Prelude.{◌≡◌, ℕ, ◌==◌, ◌&&◌, ◌||◌, Bool, true, false, not, nat_lt, is_some, List, length, slice_index, Option, Some, None, Ok, Err}
 use Rattle.std.specs.Net.Socket.{socket_ip, socket_port}
 use Rattle.std.specs.declared.net.ip_addr.IpAddr.{IpAddr}
 use Rattle.std.specs.declared.net.socket_addr.SocketAddr.{SocketAddr}
 use Rattle.qn_seal.specs.Receiving.{judged, opened_by, receiver_after}
+use Rattle.qn_links.specs.declared.sections.Ring.{Ring}
 use Rattle.qn_seal.specs.declared.receiver.Receiver.{Receiver}
+use Rattle.qn_seal.specs.declared.receiver.Refused.TheVariants.{Unsealed, Astray, Old}
 use Rattle.qn_machine.specs.declared.admission.Admission.{Admission}
 use Rattle.qn_machine.specs.declared.admission.Reason.{Reason}
 use Rattle.qn_machine.specs.declared.admission.Reason.TheVariants.{Elsewhere, Sealed}
@@ -15,7 +17,7 @@ use Rattle.qn_machine.specs.Peers.{IsOther}
 
 -- the seat of a sender: that of the arbiter is one above those of the ranks
 abbrev pub seat_of : Sender → ℕ
-seat_of (Rank rank) = rank
+seat_of (Rank rank ring) = rank
 seat_of Arbiter = 32
 
 -- the arbiter is there, at this address and this port
@@ -23,10 +25,11 @@ abbrev pub IsThere : Option SocketAddr → IpAddr → ℕ → Type 0
 IsThere None ip port = ⊥
 IsThere (Some at) ip port = (socket_ip at ≡ ip) × (socket_port at ≡ port)
 
--- the address and the port are those of that sender: of another node, or of the arbiter and of no node
+-- the address and the port are those of that sender: of another node on that network, or of the arbiter and of no node
 abbrev pub IsOf : Admission → Sender → IpAddr → ℕ → Type 0
-IsOf admission (Rank rank) ip port = IsOther admission.peers rank ip port
-IsOf admission Arbiter ip port = IsThere admission.arbiter ip port × ((rank : ℕ) → IsOther admission.peers rank ip port → ⊥)
+IsOf admission (Rank rank ring) ip port = IsOther admission.peers ring rank ip port
+IsOf admission Arbiter ip port =
+    IsThere admission.arbiter ip port × ((ring : Ring) → (rank : ℕ) → IsOther admission.peers ring rank ip port → ⊥)
 
 -- a vote of a quorum device: `QN`, kind 5, and one byte more
 abbrev pub is_vote : List ℕ → Bool
@@ -54,7 +57,7 @@ names_other bytes sender = nat_lt 4 (length bytes) && not (slice_index bytes 4 =
 
 -- a datagram without a seal that is not that sender's: of a node what is of this host alone, or a reply; of the arbiter whatever is no reply
 abbrev pub is_strange : Sender → List ℕ → Bool
-is_strange (Rank rank) bytes = is_of_host bytes || is_reply bytes
+is_strange (Rank rank ring) bytes = is_of_host bytes || is_reply bytes
 is_strange Arbiter bytes = not (is_reply bytes)
 
 -- a datagram of that sender that is not its own: without a seal a strange one, or one that another has sealed
@@ -92,3 +95,16 @@ abbrev pub IsRefused : Admission → ℕ → IpAddr → ℕ → List ℕ → Rea
 IsRefused admission tick ip port bytes Elsewhere =
     (sender : Sender) → IsOf admission sender ip port → is_foreign admission.receiver sender bytes ≡ true
 IsRefused admission tick ip port bytes (Sealed why) = IsSealRefused admission.receiver tick bytes (Sealed why)
+
+-- a packet of a node was taken before, or is too far behind what was
+abbrev pub is_behind : Option Sender → Reason → Bool
+is_behind None why = false
+is_behind (Some Arbiter) why = false
+is_behind (Some (Rank rank ring)) Elsewhere = false
+is_behind (Some (Rank rank ring)) (Sealed Unsealed) = false
+is_behind (Some (Rank rank ring)) (Sealed Astray) = false
+is_behind (Some (Rank rank ring)) (Sealed Old) = true
+
+-- what is not handed on came before over the other of two networks, or may have
+abbrev pub is_double : Peers → Option Sender → Reason → Bool
+is_double peers sender why = is_some peers.networks.second && is_behind sender why

@@ -1,4 +1,4 @@
--- What a line of the journal says of the opening, of datagrams and of lines (this project's profile, LIVE.md "The journal").
+-- What a line of the journal says of the opening, of datagrams, of lines and of what the host says of its node (this project's profile, LIVE.md "The journal").
 use Rattle.std.specs.Prelude.{ℕ, Bool, List, [], ◌∷◌, ◌+◌, ◌-◌, ◌%◌, ◌^◌, codes, min, if◌then◌else◌}
 use Rattle.qn_event.specs.EventTexts.{EventText}
 use Rattle.qn_event.specs.WholeLines.{Word, line, number, truth}
@@ -6,6 +6,9 @@ use Rattle.qn_event.specs.declared.level.Level.TheVariants.{Error, Warning, Noti
 use Rattle.qn_event.specs.declared.moment.Moment.{Moment}
 use Rattle.qn_io.specs.declared.calls.Opening.{Opening}
 use Rattle.qn_machine.specs.declared.refusals.Refusals.{Refusals}
+use Rattle.qn_machine.specs.declared.standing_text.StandingFault.{StandingFault}
+use Rattle.qn_machine.specs.declared.standing_text.StandingFault.TheVariants as fault
+use Rattle.qn_shown.specs.declared.shown.HostStanding.{HostStanding}
 
 -- a path, of which a line has at most 100 bytes
 abbrev pub path : List ℕ → List ℕ → Word
@@ -40,3 +43,28 @@ refusals_line at refusals =
 -- so many lines had no room
 abbrev pub dropped_line : Moment → ℕ → EventText
 dropped_line at count = line at Warning (codes "lines-dropped") (number (codes "count") count ∷ [])
+
+abbrev pub switch_word : Bool → List ℕ
+switch_word is_on = if is_on then codes "on" else codes "off"
+
+abbrev pub switch : List ℕ → Bool → Word
+switch key is_on = record { key = key; value = switch_word is_on; most = 3 }
+
+-- what the host says of its node now
+abbrev pub standing_line : Moment → HostStanding → EventText
+standing_line at said =
+    line at Notice (codes "standing")
+    (switch (codes "standby") said.standby
+    ∷ truth (codes "fit") said.fit
+    ∷ switch (codes "pull") said.pull
+    ∷ number (codes "weight") said.weight
+    ∷ [])
+
+-- why the file in which the host says it is none: the number of its first line that is none, or what else is wrong
+abbrev pub refusal_words : StandingFault → List Word
+refusal_words (fault.Line place) = number (codes "line") place ∷ []
+refusal_words fault.Length = record { key = codes "why"; value = codes "length"; most = 6 } ∷ []
+refusal_words fault.File = record { key = codes "why"; value = codes "file"; most = 6 } ∷ []
+
+abbrev pub refused_standing_line : Moment → StandingFault → EventText
+refused_standing_line at why = line at Warning (codes "standing-refused") (refusal_words why)

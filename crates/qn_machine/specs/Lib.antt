@@ -1,4 +1,5 @@
 pub mod Admission
+pub mod Arrivals
 pub mod Headers
 pub mod JournalLines
 pub mod Numbers
@@ -7,3 +8,4 @@ pub mod Places
 pub mod Refusals
 pub mod Streams
 pub mod Watchdogs
+pub mod StandingTexts

@@ -1,10 +1,11 @@
 //! Which of the datagrams that come are handed to the node.
 ghost use Rattle.std.specs.Prelude.{◌≡◌};
 ghost use Rattle.std.specs.Net.Socket.{socket_ip, socket_port};
-ghost use Rattle.qn_machine.specs.Admission.{IsOf, IsOpened, IsOwn, IsRefused, is_of_host, is_reply, is_request, is_strange, is_vote, is_word, names_other, receiver_after_taking, seat_of};
+ghost use Rattle.qn_machine.specs.Admission.{IsOf, IsOpened, IsOwn, IsRefused, is_double, is_of_host, is_reply, is_request, is_strange, is_vote, is_word, names_other, receiver_after_taking, seat_of};
 
 use crate::leave_file::LEAVE;
 use crate::peers::Peers;
+use qn_links::Ring;
 use qn_seal::{Receiver, Refused};
 use std::net::{IpAddr, Ipv4Addr, SocketAddr};
 
@@ -15,7 +16,7 @@ pub(crate) const ARBITER: u8 = 32;
 const VOTE: u8 = 5;
 
 /// The kind of what a node's own host says of it.
-const WORD: u8 = 13;
+pub(crate) const WORD: u8 = 13;
 
 /// The kind of a packet of the arbiter, and how many bytes it has.
 const REPLY: u8 = 7;
@@ -38,8 +39,8 @@ pub enum Reason {
 /// Whose address and port a datagram comes from.
 #[derive(Clone, Copy, PartialEq, Eq)]
 pub enum Sender {
-    /// The node of that rank, which is another one.
-    Rank(u8),
+    /// The node of that rank, which is another one, on that network.
+    Rank(u8, Ring),
     Arbiter,
 }
 
@@ -51,7 +52,7 @@ impl Sender {
         ensures { result ≡ seat_of self }
     {
         match self {
-            Sender::Rank(rank) => rank,
+            Sender::Rank(rank, _) => rank,
             Sender::Arbiter => ARBITER,
         }
     }
@@ -78,8 +79,8 @@ impl Admission {
         ensures none { IfNone result ((sender : Sender)
             → IsOf self.now sender (socket_ip from) (socket_port from) → ⊥) }
     {
-        if let Some(rank) = self.peers.sender_of(from) {
-            return Some(Sender::Rank(rank));
+        if let Some((rank, ring)) = self.peers.sender_of(from) {
+            return Some(Sender::Rank(rank, ring));
         }
         let arbiter = self.arbiter?;
         let is_it = arbiter.ip() == from.ip() && arbiter.port() == from.port();
@@ -117,6 +118,16 @@ impl Admission {
     }
 }
 
+/// Whether a datagram that is not handed on came before over the other of two networks, or may have: its number was taken, or is too far behind.
+pub(crate) fn is_double(peers: &Peers, sender: Option<Sender>, reason: Reason) -> bool
+    ensures { result ≡ is_double peers.now sender reason }
+{
+    let Reason::Sealed(Refused::Old) = reason else {
+        return false;
+    };
+    matches!(sender, Some(Sender::Rank(_, _))) && peers.networks.second.is_some()
+}
+
 /// Whether a datagram is a vote of the quorum device of this host.
 pub(crate) fn is_vote_of_host(from: SocketAddr, bytes: &[u8]) -> bool {
     from.ip() == IpAddr::V4(Ipv4Addr::LOCALHOST) && is_vote(bytes)
@@ -128,7 +139,7 @@ fn is_strange(sender: Sender, bytes: &[u8]) -> bool
     ensures { result ≡ is_strange sender bytes.now }
 {
     match sender {
-        Sender::Rank(_) => is_of_host(bytes) || is_reply(bytes),
+        Sender::Rank(_, _) => is_of_host(bytes) || is_reply(bytes),
         Sender::Arbiter => !is_reply(bytes),
     }
 }

@@ -45,6 +45,9 @@ impl Devices {
             "port",
             Network::open(rt, edge, opening.port, opening.rank),
         )?;
+        if let Some(at) = network.closed() {
+            let _ = eprintln!(errors; "quorumd: port: {at}: not there, and tried again each loop");
+        }
         let opener = Opener::Node(opening.rank);
         reported(errors, opening.image, check_reach(edge, opening.image))?;
         let mut disk = Disk::open(rt, errors, opening.images, opening.image, opener, absent)?;

@@ -1,10 +1,10 @@
-//! What of the outside is said before the command: where the nodes are, what guards their packets, what is told of a halt, and what asks a node to leave.
+//! What of the outside is said before the command: where the nodes are, what guards their packets, what is told of a halt, what asks a node to
+//! leave, and what its host says of it.
 use crate::named_file::Absent;
+use crate::standing_text::NOTHING;
+use qn_links::{ArbiterPlace, Networks};
 use qn_seal::{Keys, Texts, text_of};
-use std::net::IpAddr;
-
-/// The most nodes of a cluster.
-pub const MOST_NODES: usize = 32;
+use qn_shown::HostStanding;
 
 /// What guards the packets between nodes.
 #[derive(Clone, Copy)]
@@ -28,21 +28,14 @@ pub enum Overwrites {
     Anything,
 }
 
-/// Where an arbiter is.
-#[derive(Clone, Copy)]
-pub struct ArbiterAt {
-    pub address: IpAddr,
-    /// Its port; None: the one that belongs to its seat, 32 above the first port of the cluster.
-    pub port: Option<u16>,
-}
-
 /// What of the outside is said before the command.
 #[derive(Drop)]
 pub struct Edge {
-    /// The address of each rank; None: all of them on 127.0.0.1.
-    pub addresses: Option<[Option<IpAddr>; MOST_NODES]>,
-    /// Where the arbiter of the nodes with these addresses is, which they poll; None: nowhere, or on 127.0.0.1 where they are there.
-    pub arbiter: Option<ArbiterAt>,
+    /// The addresses of each rank; None: all of them on 127.0.0.1.
+    pub networks: Option<Networks>,
+    /// Where the arbiter of the nodes with these addresses is, which they poll; None: nowhere, or on 127.0.0.1 where they are there. Without a
+    /// port it is at the one that belongs to its seat, 32 above the first port of the cluster.
+    pub arbiter: Option<ArbiterPlace>,
     pub guard: Guard,
     /// What stands for the settings text in a tag.
     pub texts: Texts,
@@ -50,14 +43,19 @@ pub struct Edge {
     pub halt: Option<String>,
     /// The path of a file with which this host asks its node to leave.
     pub leave: Option<String>,
+    /// The path of a file in which this host says whether its node may hold the resource.
+    pub standing_file: Option<String>,
+    /// What this host says of its node by the settings text, where that file is silent.
+    pub standing: HostStanding,
     pub overwrites: Overwrites,
 }
 
 impl Edge {
-    /// Nothing said: all nodes on 127.0.0.1, no seal, no text, no file for a halt and for a leave, and plain files are written over.
+    /// Nothing said: all nodes on 127.0.0.1, no seal, no text, no file for a halt, for a leave or of the host's words, and plain files are
+    /// written over.
     pub fn local() -> Edge {
         Edge {
-            addresses: None,
+            networks: None,
             arbiter: None,
             guard: Guard::Unsaid,
             texts: Texts {
@@ -66,6 +64,8 @@ impl Edge {
             },
             halt: None,
             leave: None,
+            standing_file: None,
+            standing: NOTHING,
             overwrites: Overwrites::Files,
         }
     }
@@ -73,20 +73,24 @@ impl Edge {
     /// Whether votes of a quorum device of this host are taken: only where nothing was said of the network, since any user of the host can
     /// send one.
     pub(crate) fn takes_votes(&self) -> bool {
-        self.addresses.is_none() && matches!(self.guard, Guard::Unsaid)
+        self.networks.is_none() && matches!(self.guard, Guard::Unsaid)
     }
 
     /// How many nodes the settings text has, where one was given.
     pub(crate) fn nodes(&self) -> Option<u32> {
-        let addresses = self.addresses.as_ref()?;
-        let count = addresses.iter().filter(|address| address.is_some()).count();
+        let networks = self.networks.as_ref()?;
+        let count = networks
+            .first
+            .iter()
+            .filter(|address| address.is_some())
+            .count();
         u32::try_from(count).ok()
     }
 
     /// What becomes of an opening of a node where something is absent: with any word of a machine nothing is made, since a path that
     /// is wrong is no other node's.
     pub(crate) fn absent(&self) -> Absent {
-        if self.addresses.is_some() || self.halt.is_some() {
+        if self.networks.is_some() || self.halt.is_some() {
             return Absent::Refused;
         }
         match self.guard {

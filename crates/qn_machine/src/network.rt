@@ -1,26 +1,28 @@
 //! The network of the nodes and of their arbiter: a UDP socket each, at the port of its rank on its address, which is 127.0.0.1 where nothing
-//! else is said.
+//! else is said; and on two networks two sockets of each node, over which each packet is sent.
 ghost use Rattle.std.specs.Prelude.{◌≤◌, IfOk, IfSome};
 
-use crate::admission::{ARBITER, Admission, Reason, Sender, is_vote_of_host};
-use crate::deadline::{Deadline, is_late};
-use crate::edge::{ArbiterAt, Edge, Guard, MOST_NODES};
+use crate::admission::{ARBITER, Admission, Reason, Sender, is_double, is_vote_of_host};
+use crate::deadline::Deadline;
+use crate::edge::{Edge, Guard};
 use crate::error_lines::Lines;
 use crate::leave_file::{LeaveFile, REQUEST};
-use crate::named_file::FIRST_OF_A_FILE;
-use crate::peers::Peers;
+use crate::peers::{Destination, Peers};
 use crate::refusals::Refusals;
 use crate::sealing::Sealing;
+use crate::socket::open_socket;
+use crate::sockets::Sockets;
+use crate::standing_file::StandingFile;
+use crate::voices::Telling;
 use arrayvec::ArrayVec;
 use qn_base::Rank;
-use qn_exchange::TRIES;
 use qn_io::PACKET;
+use qn_links::{ArbiterPlace, Networks};
 use qn_seal::{Receiver, Refused};
-use qn_shown::{Told, get_told, put_told};
+use qn_shown::{get_told, put_told};
 use std::fs::File;
 use std::io::{self, ErrorKind};
 use std::net::{IpAddr, Ipv4Addr, Net, SocketAddr, UdpSocket};
-use std::os::fd::AsRawFd;
 use std::rt::Files;
 use std::time::{Clock, Duration};
 
@@ -34,9 +36,7 @@ const LOOKS: u32 = 10_000;
 /// The sockets of one node or of the arbiter, and what is between them and it.
 #[derive(Drop)]
 pub(crate) struct Network {
-    socket: UdpSocket,
-    /// How long the system lets a read of the socket wait.
-    wait: Duration,
+    sockets: Sockets,
     /// The same port of this host, where the node has another address: the lock on the node, of which nothing is read.
     _lock: Option<UdpSocket>,
     /// Whether votes of a quorum device of this host are taken.
@@ -46,11 +46,14 @@ pub(crate) struct Network {
     refusals: Refusals,
     /// With what this host asks its node to leave.
     leave: Option<LeaveFile>,
+    /// With what this host says whether its node may hold the resource.
+    standing: StandingFile,
 }
 
 impl Network {
-    /// Opens the port of that rank, or of the arbiter as rank 32, at its address. Where that is not 127.0.0.1, the same port of 127.0.0.1 is opened
-    /// before it. It fails where another program holds that port: so no two programs run as one node on one host.
+    /// Opens the port of that rank, or of the arbiter as rank 32, at its address, on two networks at each, of which one is enough. Where none is
+    /// 127.0.0.1, the same port of 127.0.0.1 is opened before it. It fails where another program holds that port: so no two programs run as one
+    /// node on one host.
     pub(crate) fn open<R: Net + Clock + AllocGlobal>(
         rt: &R,
         edge: &Edge,
@@ -60,14 +63,13 @@ impl Network {
         let peers = peers_of(edge, first_port, rank);
         let (own, arbiter) = places_of(edge, &peers, first_port, rank)?;
         let host = IpAddr::V4(Ipv4Addr::LOCALHOST);
-        let lock = if own.ip() == host {
+        let is_on_host = own.first.ip() == host || own.second.is_some_and(|at| at.ip() == host);
+        let lock = if is_on_host {
             None
         } else {
-            Some(open_socket(rt, SocketAddr::new(host, own.port()))?)
+            Some(open_socket(rt, SocketAddr::new(host, own.first.port()))?)
         };
-        let socket = open_socket(rt, own)?;
-        let wait = Duration::from_millis(WAIT);
-        socket.set_read_timeout(Some(wait))?;
+        let sockets = Sockets::open(rt, own, Duration::from_millis(WAIT))?;
         let (receiver, sealing) = match edge.guard {
             Guard::Unsaid | Guard::ClosedNetwork => (None, None),
             Guard::Sealed(keys) => (
@@ -76,8 +78,7 @@ impl Network {
             ),
         };
         Ok(Network {
-            socket,
-            wait,
+            sockets,
             _lock: lock,
             takes_votes: edge.takes_votes(),
             admission: Admission {
@@ -87,14 +88,15 @@ impl Network {
             },
             sealing,
             refusals: Refusals::default(),
-            leave: leave_file_of(rt, edge)?,
+            leave: path_of(rt, &edge.leave)?.map(LeaveFile::at),
+            standing: StandingFile::at(path_of(rt, &edge.standing_file)?, edge.standing),
         })
     }
 
     /// Takes a packet, the first 129 bytes of a longer one; None where none came in time. What is not for the node is passed over, and
     /// the call goes on with the time that is left; so it does after an interruption. Where this host asks its node to leave, that
-    /// comes first.
-    pub(crate) fn receive<R: Files<File = File> + Clock>(
+    /// comes first, and then what this host says anew of it.
+    pub(crate) fn receive<R: Files<File = File> + Net + Clock + Eprint>(
         &mut self,
         rt: &R,
         lines: &Lines,
@@ -107,8 +109,12 @@ impl Network {
                 return Ok(Some(put(&REQUEST, packet)));
             }
         }
-        if let Some(told) = lines.voices().take_due() {
-            self.tell(told);
+        if let Some(word) = self.standing.news(rt, lines)? {
+            return Ok(Some(put(&word, packet)));
+        }
+        if let Some(telling) = lines.voices().take_due() {
+            self.sockets.open_again(rt);
+            self.tell(telling);
         }
         let end = Deadline::after(rt, WAIT)?;
         let mut left = Duration::from_millis(WAIT);
@@ -134,25 +140,12 @@ impl Network {
     ) -> io::Result<Option<usize>>
         ensures { IfOk result (λ came. IfSome came (λ count. count ≤ 129)) }
     {
-        self.set_wait(time)?;
         let mut datagram = [0; PACKET];
-        match self.socket.recv_from(&mut datagram) {
-            Ok((count, from)) => {
-                let tick = u64::try_from(clock.monotonic()?.as_millis()).unwrap_or(u64::MAX);
-                Ok(self.take(tick, lines, from, &datagram[..count], packet))
-            }
-            Err(error) if error.kind() == ErrorKind::Interrupted || is_late(&error) => Ok(None),
-            Err(error) => Err(error),
-        }
-    }
-
-    /// Has a read of the socket wait so long. The system is told where that changes alone: a node at rest asks it for nothing but packets.
-    fn set_wait(&mut self, time: Duration) -> io::Result<()> {
-        if time != self.wait {
-            self.socket.set_read_timeout(Some(time))?;
-            self.wait = time;
-        }
-        Ok(())
+        let Some((count, from)) = self.sockets.receive(time, &mut datagram)? else {
+            return Ok(None);
+        };
+        let tick = u64::try_from(clock.monotonic()?.as_millis()).unwrap_or(u64::MAX);
+        Ok(self.take(tick, lines, from, &datagram[..count], packet))
     }
 
     /// Puts a datagram of that address into the buffer, where it is for the node, and gives how many bytes it has there.
@@ -171,19 +164,35 @@ impl Network {
         }
         let sender = self.admission.sender_of(from);
         match self.admission.take(tick, from, bytes) {
-            Ok(inner) => match get_told(inner) {
-                Some((teller, told)) => {
-                    if sender == Some(Sender::Rank(teller.0)) {
-                        lines.voices().hear(teller, told, tick);
+            Ok(inner) => {
+                self.note_arrival(lines, sender, tick);
+                match get_told(inner) {
+                    Some((teller, told)) => {
+                        if is_rank(sender, teller) {
+                            lines.voices().hear(teller, told, tick);
+                        }
+                        None
                     }
-                    None
+                    None => Some(put(inner, packet)),
                 }
-                None => Some(put(inner, packet)),
-            },
+            }
+            Err(reason) if is_double(&self.admission.peers, sender, reason) => {
+                self.note_arrival(lines, sender, tick);
+                None
+            }
             Err(reason) => {
                 self.refuse(lines, sender, reason);
                 None
             }
+        }
+    }
+
+    /// Notes over which of two networks a packet of a node came.
+    fn note_arrival(&self, lines: &Lines, sender: Option<Sender>, tick: u64) {
+        if let Some(Sender::Rank(rank, ring)) = sender
+            && self.admission.peers.networks.second.is_some()
+        {
+            lines.voices().arrive(rank, ring, tick);
         }
     }
 
@@ -197,11 +206,11 @@ impl Network {
     }
 
     /// Tells each other node how this one is. What cannot be sent is lost, as any packet may be.
-    fn tell(&mut self, told: Told) {
+    fn tell(&mut self, telling: Telling) {
         let own = Rank(self.admission.peers.own);
         let mut spelling = ArrayVec::new();
-        put_told(own, told, &mut spelling);
-        'ranks: for rank in 0..self.admission.peers.count() {
+        put_told(own, telling.told, &mut spelling);
+        'ranks: for rank in 0..self.admission.peers.count().min(telling.nodes) {
             if rank != own.0 {
                 let _ = self.send(Rank(rank), spelling.as_slice());
             }
@@ -218,35 +227,63 @@ impl Network {
         self.admission.arbiter
     }
 
+    /// The address of the node on the one of two networks where it is not open, since this host does not have it.
+    pub(crate) fn closed(&self) -> Option<SocketAddr> {
+        self.sockets.closed()
+    }
+
     /// Sends a packet to the node of that rank, or to the arbiter as rank 32, whether it is there or not. What is for an arbiter of which nobody
     /// knows where it is, is lost: the opening of the node has said so.
     pub(crate) fn send(&mut self, to: Rank, bytes: &[u8]) -> io::Result<()> {
-        let address = if to.0 == ARBITER {
-            let Some(arbiter) = self.admission.arbiter else {
-                return Ok(());
-            };
-            arbiter
-        } else {
-            let Some(address) = self.admission.peers.address_of(to.0) else {
-                return Err(io::Error::new(ErrorKind::InvalidInput, "no address of that node"));
-            };
-            address
+        let Some(destination) = self.destination_of(to)? else {
+            return Ok(());
         };
         match &mut self.sealing {
-            None => send_to(&self.socket, bytes, address),
+            None => self.sockets.send(bytes, destination),
             Some(sealing) => {
                 let sealed = sealing.seal(to, bytes)?;
-                send_to(&self.socket, sealed.as_slice(), address)
+                self.sockets.send(sealed.as_slice(), destination)
             }
+        }
+    }
+
+    /// Where packets for the node of that rank are sent, or for the arbiter as rank 32, which is on the first network alone.
+    fn destination_of(&self, to: Rank) -> io::Result<Option<Destination>> {
+        if to.0 == ARBITER {
+            return Ok(self.admission.arbiter.map(at_first));
+        }
+        match self.admission.peers.destination_of(to.0) {
+            Some(destination) => Ok(Some(destination)),
+            None => Err(io::Error::new(ErrorKind::InvalidInput, "no address of that node")),
         }
     }
 }
 
-/// Where the nodes are.
+/// That address and port on the first network alone.
+fn at_first(at: SocketAddr) -> Destination {
+    Destination {
+        first: at,
+        second: None,
+    }
+}
+
+/// Whether it is the node of that rank.
+fn is_rank(sender: Option<Sender>, rank: Rank) -> bool {
+    matches!(sender, Some(Sender::Rank(of, _)) if of == rank.0)
+}
+
+/// Where the nodes are. An arbiter knows them on the first network alone.
 fn peers_of(edge: &Edge, first_port: u16, rank: Rank) -> Peers {
-    let everywhere = [Some(IpAddr::V4(Ipv4Addr::LOCALHOST)); MOST_NODES];
+    let everywhere = Networks {
+        first: [Some(IpAddr::V4(Ipv4Addr::LOCALHOST)); 32],
+        second: None,
+    };
+    let mut networks = edge.networks.unwrap_or(everywhere);
+    if rank.0 == ARBITER {
+        networks.second = None;
+    }
     Peers {
-        addresses: edge.addresses.unwrap_or(everywhere),
+        networks,
         first_port,
         own: rank.0,
     }
@@ -258,12 +295,12 @@ fn places_of(
     peers: &Peers,
     first_port: u16,
     rank: Rank,
-) -> io::Result<(SocketAddr, Option<SocketAddr>)> {
+) -> io::Result<(Destination, Option<SocketAddr>)> {
     let arbiter = address_of_arbiter(edge, first_port);
     let (own, polled) = if rank.0 == ARBITER {
-        (arbiter, None)
+        (arbiter.map(at_first), None)
     } else {
-        (peers.address_of(rank.0), arbiter)
+        (peers.destination_of(rank.0), arbiter)
     };
     match own {
         Some(own) => Ok((own, polled)),
@@ -271,22 +308,22 @@ fn places_of(
     }
 }
 
-/// With what this host asks its node to leave, where that was said.
-fn leave_file_of<R: AllocGlobal>(rt: &R, edge: &Edge) -> io::Result<Option<LeaveFile>> {
-    let Some(path) = &edge.leave else {
+/// A copy of a path, where there is one.
+fn path_of<R: AllocGlobal>(rt: &R, path: &Option<String>) -> io::Result<Option<String>> {
+    let Some(path) = path else {
         return Ok(None);
     };
     match String::from_str(rt.alloc(), path.as_str()) {
-        Ok(path) => Ok(Some(LeaveFile::at(path))),
+        Ok(path) => Ok(Some(path)),
         Err(_) => Err(io::Error::from(ErrorKind::OutOfMemory)),
     }
 }
 
 /// Where the arbiter is, where there is one: on 127.0.0.1 where all nodes are there.
 fn address_of_arbiter(edge: &Edge, first_port: u16) -> Option<SocketAddr> {
-    let at = match edge.addresses {
+    let at = match edge.networks {
         Some(_) => edge.arbiter?,
-        None => ArbiterAt {
+        None => ArbiterPlace {
             address: IpAddr::V4(Ipv4Addr::LOCALHOST),
             port: None,
         },
@@ -298,15 +335,6 @@ fn address_of_arbiter(edge: &Edge, first_port: u16) -> Option<SocketAddr> {
     Some(SocketAddr::new(at.address, port))
 }
 
-/// Opens a socket at that address and port. Its descriptor is above those of the standard streams.
-fn open_socket<R: Net>(rt: &R, at: SocketAddr) -> io::Result<UdpSocket> {
-    let socket = UdpSocket::bind(rt, at)?;
-    if socket.as_raw_fd() < FIRST_OF_A_FILE {
-        return socket.try_clone();
-    }
-    Ok(socket)
-}
-
 /// Puts bytes at the beginning of the buffer, as many as it has room for, and gives how many these are.
 fn put(bytes: &[u8], packet: &mut [u8; PACKET]) -> usize
     ensures { result ≤ 129 }
@@ -314,17 +342,4 @@ fn put(bytes: &[u8], packet: &mut [u8; PACKET]) -> usize
     let count = bytes.len().min(PACKET);
     packet[..count].copy_from_slice(&bytes[..count]);
     count
-}
-
-/// Sends a datagram, again after each interruption.
-fn send_to(socket: &UdpSocket, bytes: &[u8], address: SocketAddr) -> io::Result<()> {
-    'tries: for _ in 0..TRIES {
-        match socket.send_to(bytes, address) {
-            Ok(count) if count == bytes.len() => return Ok(()),
-            Ok(_) => return Err(io::Error::from(ErrorKind::WriteZero)),
-            Err(error) if error.kind() == ErrorKind::Interrupted => {}
-            Err(error) => return Err(error),
-        }
-    }
-    Err(io::Error::from(ErrorKind::Interrupted))
 }

@@ -1,4 +1,4 @@
-//! Waits of the system that end at a time: for room at standard error, and for nothing.
+//! Waits of the system that end at a time: for room at standard error, for packets, and for nothing.
 use crate::named_file::FIRST_OF_A_FILE;
 use mio::unix::SourceFd;
 use mio::{Events, Interest, Poll, Token};
@@ -10,6 +10,9 @@ use std::time::Duration;
 
 /// The descriptor of standard error.
 const ERRORS: RawFd = 2;
+
+/// How many sources are waited for at most: the sockets of two networks.
+const SOURCES: usize = 2;
 
 /// What the system is asked for waits with. It takes memory once.
 #[derive(Drop)]
@@ -25,7 +28,7 @@ impl Waiting {
         for place in &mut lower {
             let poll = Poll::new(rt)?;
             if poll.as_raw_fd() >= FIRST_OF_A_FILE {
-                let events = Events::with_capacity(rt.alloc(), 1)?;
+                let events = Events::with_capacity(rt.alloc(), SOURCES)?;
                 return Ok(Waiting { poll, events });
             }
             *place = Some(poll);
@@ -47,6 +50,18 @@ impl Waiting {
         registry.reregister(&mut SourceFd(&ERRORS), Token(0), Interest::WRITABLE)?;
         self.poll.poll(&mut self.events, Some(Duration::ZERO))?;
         Ok(self.events.iter().any(|event| event.is_writable()))
+    }
+
+    /// From now on it waits for what comes there too. The system reports each arrival once.
+    pub(crate) fn add_input(&self, source: RawFd) -> io::Result<()> {
+        let registry = self.poll.registry();
+        registry.register(&mut SourceFd(&source), Token(0), Interest::READABLE)
+    }
+
+    /// Waits for so long, or up to an arrival or a signal; whether something came.
+    pub(crate) fn wait_for_input(&mut self, time: Duration) -> io::Result<bool> {
+        self.poll.poll(&mut self.events, Some(time))?;
+        Ok(self.events.iter().any(|event| event.is_readable()))
     }
 
     /// Waits for so long, or up to a signal.

@@ -12,7 +12,8 @@ ghost use Rattle.qn_member.specs.NamingViews.{after_found, chosen_by, facts_seen
 /// Law: while the node says nothing of itself it is a view maker without names, whatever the others say of themselves: after any
 /// calls it knows the same, and each answer is the same.
 pub fn law_silent_node()
-    ensures { (s : Settings) (me loop_ms : ℕ) (calls : List SilentCall) → IsPlain s me loop_ms calls (silent_maker s me loop_ms calls) }
+    ensures { (s : Settings) (me loop_ms : ℕ) (calls : List SilentCall)
+        → IsPlain s me loop_ms calls (silent_maker s me loop_ms calls) }
 {}
 
 /// Law: a view that a leader makes which knows names has the number of whom it names among the members.

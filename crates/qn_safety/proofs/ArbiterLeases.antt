@@ -26,14 +26,14 @@ use Rattle.qn_safety.specs.declared.lease.Lease.{Lease}
 use Rattle.qn_safety.specs.declared.polls.Poll.{Poll}
 use Rattle.qn_safety.specs.Arbiter.{HeardPoll, gives_yes, is_older, last_yes}
 use Rattle.qn_safety.specs.ArbiterWorld.{Arbiter, arbiter_tick, poll_at}
-use Rattle.qn_safety.specs.ArbiterSteps.{AllAllowedBeside, arbiter_after, hearing, run_beside}
+use Rattle.qn_safety.specs.ArbiterSteps.{arbiter_after, hearing, run_beside}
 use Rattle.qn_safety.specs.ArbiterLaws.{LeasesVote, IsQuorateIn}
 use Rattle.qn_safety.specs.Lease.{is_in_range, is_safe_lease, outlasts_yes}
 use Rattle.qn_safety.proofs.ArbiterBelow.{Below}
 use Rattle.qn_safety.proofs.ArbiterCounting.{leased_of, must_count}
 use Rattle.qn_safety.proofs.ArbiterTools.{before_then, before_tail, before_total, newest_state}
 use Rattle.qn_safety.proofs.ArbiterMemories.{last_after, yes_after_lease, yes_in_the_way}
-use Rattle.qn_safety.proofs.ArbiterPlaying.{IsRun, moments_at, moments_grow, arbiter_now, plays_of, run_before, run_of, timed_of}
+use Rattle.qn_safety.proofs.ArbiterPlaying.{IsRun, moments_at, moments_grow, arbiter_now, plays_of, run_before, timed_of}
 use Rattle.qn_safety.proofs.ArbiterStandings.{SentFrom}
 use Rattle.qn_safety.proofs.ArbiterRemembering.{Remembers, remembers, Lived, Booted, Remained, lived}
 use Rattle.qn_safety.proofs.ArbiterGranting.{Granted, Voted, voted}
@@ -261,14 +261,11 @@ module _ (law : Below)
       record { on = one.on; since = it.since; votes_it = voted law run i it.since it.agreed; counts = it.counts }
 
   -- two nodes with disjoint present views are never both quorate
-  pub one_lease : (s : Settings) (t : Timing) (times : Lease) (events : List ArbiterEvent) (i j : ℕ) (left right : View) → LeasesVote s times → AllAllowedBeside s t times events
+  pub one_lease : (s : Settings) (t : Timing) (times : Lease) (events : List ArbiterEvent) (i j : ℕ) (left right : View) → LeasesVote s times → IsRun s t times events
       → ((i ≡ j) → ⊥) → AreDisjoint left right → IsQuorateIn s i left (run_beside s t times events) → IsQuorateIn s j right (run_beside s t times events) → ⊥
-  one_lease s t times events i j left right leased all differ apart one other =
+  one_lease s t times events i j left right leased run differ apart one other =
       by_order (before_total first.votes_it.granted.back second.votes_it.granted.back)
     where
-      run : IsRun s t times events
-      run = run_of s t times events all
-
       swapped : AreDisjoint right left
       swapped = λ rank in_right in_left. apart rank in_left in_right
 

@@ -7,7 +7,7 @@ use Rattle.qn_model.specs.declared.events.Event.{Event}
 use Rattle.qn_model.specs.declared.times.Timing.{Timing}
 use Rattle.qn_model.specs.Moments.{Before, Itself, Later, Moment, tick_of}
 use Rattle.qn_model.specs.Rules.{is_configured, is_on, is_well_formed, refusal, unless}
-use Rattle.qn_model.specs.Steps.{AllAllowed, run, step}
+use Rattle.qn_model.specs.Steps.{run, step}
 use Rattle.qn_model.specs.World.{World, node_at}
 use Rattle.qn_safety.specs.LogMoves.{LogMove}
 use Rattle.qn_safety.specs.Timed.{IsTimedRun}
@@ -18,9 +18,13 @@ use Rattle.qn_safety.specs.declared.polls.Poll.{Poll}
 use Rattle.qn_safety.specs.declared.polls.Reply.{Reply}
 use Rattle.qn_safety.specs.Poller.{Standing, answer_taken, next_poll}
 use Rattle.qn_safety.specs.ArbiterWorld.{Arbiter, ArbiterWorld, poll_at, reply_at, standing_at}
+use Rattle.qn_safety.specs.AnyNumbers.{is_ranked}
+use Rattle.qn_safety.specs.ArbiterNumbers.{AllMayBeside, is_ranked_beside}
 use Rattle.qn_safety.specs.ArbiterRules.{is_well_formed_beside, is_yes_of_device, may_pass_with, may_reply, refusal_beside}
 use Rattle.qn_safety.specs.ArbiterSteps.{AllAllowedBeside, arbiter_after, device_event, played, plays, poll_sent, pollers_after, reply_event, reply_sent, reply_to, run_beside, step_beside, world_after}
 use Rattle.qn_safety.proofs.ArbiterBelow.{Below}
+use Rattle.qn_safety.proofs.Events as nodes
+use Rattle.qn_safety.proofs.Events.{ranked_of}
 use Rattle.qn_safety.proofs.ArbiterTools.{first_allows, added_item}
 use Rattle.std.specs.Prelude.{slice_get}
 use Rattle.std.proofs.lemmas.Option.{same_Some}
@@ -66,17 +70,36 @@ plays_now s t times event earlier = refl
 -- events that are each allowed in their turn, newest first
 pub data IsRun (s : Settings) (t : Timing) (times : Lease) : List ArbiterEvent → Type 0 where
   NoEvent : IsRun s t times []
-  OneEvent : {event : ArbiterEvent} {earlier : List ArbiterEvent} → is_well_formed_beside s event ≡ true → refusal_beside s t event (run_beside s t times earlier) ≡ None
+  OneEvent : {event : ArbiterEvent} {earlier : List ArbiterEvent} → is_ranked_beside s event ≡ true → refusal_beside s t event (run_beside s t times earlier) ≡ None
       → IsRun s t times earlier → IsRun s t times (event ∷ earlier)
 
-pub run_of : (s : Settings) (t : Timing) (times : Lease) (events : List ArbiterEvent) → AllAllowedBeside s t times events → IsRun s t times events
-unfolding AllAllowedBeside
-run_of s t times [] all = NoEvent
-run_of s t times (event ∷ earlier) all = OneEvent all.0 all.1 (run_of s t times earlier all.2)
+-- a well formed event boots and polls configured nodes
+ranked_beside : (s : Settings) (event : ArbiterEvent) → is_well_formed_beside s event ≡ true → is_ranked_beside s event ≡ true
+unfolding is_well_formed_beside is_ranked_beside
+ranked_beside s (beside.One one) form = ranked_of s one form
+ranked_beside s (beside.PassWith advance one) form = ranked_of s one (second_of_both (nat_le advance 1000000000000) (is_well_formed s one) form)
+ranked_beside s (beside.ArbiterBoot base) form = refl
+ranked_beside s beside.ArbiterCrash form = refl
+ranked_beside s (beside.Poll rank) form = form
+ranked_beside s (beside.Hear number) form = refl
+ranked_beside s (beside.Reply number) form = refl
 
--- an event that is allowed is well formed, and no rule refuses it
+pub may_of_allowed : (s : Settings) (t : Timing) (times : Lease) (events : List ArbiterEvent) → AllAllowedBeside s t times events → AllMayBeside s t times events
+unfolding AllAllowedBeside AllMayBeside
+may_of_allowed s t times [] all = tt
+may_of_allowed s t times (event ∷ earlier) all = (ranked_beside s event all.0, all.1, may_of_allowed s t times earlier all.2)
+
+pub may_run : (s : Settings) (t : Timing) (times : Lease) (events : List ArbiterEvent) → AllMayBeside s t times events → IsRun s t times events
+unfolding AllMayBeside
+may_run s t times [] all = NoEvent
+may_run s t times (event ∷ earlier) all = OneEvent all.0 all.1 (may_run s t times earlier all.2)
+
+pub run_of : (s : Settings) (t : Timing) (times : Lease) (events : List ArbiterEvent) → AllAllowedBeside s t times events → IsRun s t times events
+run_of s t times events all = may_run s t times events (may_of_allowed s t times events all)
+
+-- an event that is allowed boots and polls configured nodes, and no rule refuses it
 pub record IsAllowed (s : Settings) (t : Timing) (times : Lease) (event : ArbiterEvent) (earlier : List ArbiterEvent) : Type 0 where
-  pub form : is_well_formed_beside s event ≡ true
+  pub form : is_ranked_beside s event ≡ true
   pub ok : refusal_beside s t event (run_beside s t times earlier) ≡ None
   pub rest : IsRun s t times earlier
 
@@ -87,10 +110,9 @@ pub run_before : {s : Settings} {t : Timing} {times : Lease} {old new : List Arb
 run_before Itself run = run
 run_before (Later newest more) (OneEvent form ok run) = run_before more run
 
--- the polls and the replies that were sent are of configured nodes
+-- the polls that were sent are of configured nodes
 pub record Known (s : Settings) (w : ArbiterWorld) : Type 0 where
   pub polls : (number : ℕ) (poll : Poll) → poll_at number w ≡ Some poll → is_configured s poll.from.0 ≡ true
-  pub replies : (number : ℕ) (reply : Reply) → reply_at number w ≡ Some reply → is_configured s reply.to.0 ≡ true
 
 -- a reply that was sent, to a node that runs
 pub reply_there : (s : Settings) (t : Timing) (number : ℕ) (w : ArbiterWorld) → refusal_beside s t (beside.Reply number) w ≡ None
@@ -119,35 +141,35 @@ hear_there s t number w ok =
     record { arbiter = arbiter.0; poll = poll.0; runs = arbiter.1; there = poll.1 }
 
 -- the events that the nodes meet are well formed and allowed
-handed_allowed : (s : Settings) (t : Timing) (rank : Rank) (answer : Option Bool) (w : World) → is_configured s rank.0 ≡ true → is_on s rank.0 w ≡ true
-    → (is_well_formed s (device_event rank answer) ≡ true) × (refusal s t (device_event rank answer) w ≡ None)
-unfolding is_well_formed refusal
-handed_allowed s t rank (Some agrees) w known on = (known, ap (λ b. option_or (unless b 3) None) on)
-handed_allowed s t rank None w known on = (known, ap (λ b. option_or (unless b 3) None) on)
+handed_allowed : (s : Settings) (t : Timing) (rank : Rank) (answer : Option Bool) (w : World) → is_on s rank.0 w ≡ true
+    → (is_ranked s (device_event rank answer) ≡ true) × (refusal s t (device_event rank answer) w ≡ None)
+unfolding refusal
+handed_allowed s t rank (Some agrees) w on = (refl, ap (λ b. option_or (unless b 3) None) on)
+handed_allowed s t rank None w on = (refl, ap (λ b. option_or (unless b 3) None) on)
 
-pub played_allowed : (s : Settings) (t : Timing) (event : ArbiterEvent) (w : ArbiterWorld) (one : Event) → is_well_formed_beside s event ≡ true → refusal_beside s t event w ≡ None
-    → Known s w → played s event w ≡ Some one → (is_well_formed s one ≡ true) × (refusal s t one w.world ≡ None)
-unfolding is_well_formed_beside refusal_beside played
-played_allowed s t (beside.One other) w one form ok known e =
-    subst (λ x. (is_well_formed s x ≡ true) × (refusal s t x w.world ≡ None)) (same_Some other one e)
+pub played_allowed : (s : Settings) (t : Timing) (event : ArbiterEvent) (w : ArbiterWorld) (one : Event) → is_ranked_beside s event ≡ true → refusal_beside s t event w ≡ None
+    → played s event w ≡ Some one → (is_ranked s one ≡ true) × (refusal s t one w.world ≡ None)
+unfolding is_ranked_beside refusal_beside played
+played_allowed s t (beside.One other) w one form ok e =
+    subst (λ x. (is_ranked s x ≡ true) × (refusal s t x w.world ≡ None)) (same_Some other one e)
     (form, (first_allows (not (is_yes_of_device other)) 11 (refusal s t other w.world) ok).1)
-played_allowed s t (beside.PassWith advance other) w one form ok known e =
-    subst (λ x. (is_well_formed s x ≡ true) × (refusal s t x w.world ≡ None)) (same_Some other one e)
-    (second_of_both (nat_le advance 1000000000000) (is_well_formed s other) form, (first_allows (may_pass_with advance other w) 15 (refusal s t other w.world) ok).1)
-played_allowed s t (beside.ArbiterBoot base) w one form ok known e = none_is_not_some one e
-played_allowed s t beside.ArbiterCrash w one form ok known e = none_is_not_some one e
-played_allowed s t (beside.Poll rank) w one form ok known e = none_is_not_some one e
-played_allowed s t (beside.Hear number) w one form ok known e = none_is_not_some one e
-played_allowed s t (beside.Reply number) w one form ok known e =
+played_allowed s t (beside.PassWith advance other) w one form ok e =
+    subst (λ x. (is_ranked s x ≡ true) × (refusal s t x w.world ≡ None)) (same_Some other one e)
+    (form, (first_allows (may_pass_with advance other w) 15 (refusal s t other w.world) ok).1)
+played_allowed s t (beside.ArbiterBoot base) w one form ok e = none_is_not_some one e
+played_allowed s t beside.ArbiterCrash w one form ok e = none_is_not_some one e
+played_allowed s t (beside.Poll rank) w one form ok e = none_is_not_some one e
+played_allowed s t (beside.Hear number) w one form ok e = none_is_not_some one e
+played_allowed s t (beside.Reply number) w one form ok e =
     let it = reply_there s t number w ok in
     let same : reply_event s w it.0 ≡ one = same_Some (reply_event s w it.0) one (sym (ap (λ o. option_map (reply_event s w) o) it.1) ∙ e) in
-    subst (λ x. (is_well_formed s x ≡ true) × (refusal s t x w.world ≡ None)) same
-    (handed_allowed s t it.0.to (answer_taken (tick_of (node_at s it.0.to.0 w.world).clock) it.0 (w.pollers it.0.to.0)) w.world (known.replies number it.0 it.1) it.2)
+    subst (λ x. (is_ranked s x ≡ true) × (refusal s t x w.world ≡ None)) same
+    (handed_allowed s t it.0.to (answer_taken (tick_of (node_at s it.0.to.0 w.world).clock) it.0 (w.pollers it.0.to.0)) w.world it.2)
 
 -- what is sent is of a configured node
-poll_known : (s : Settings) (t : Timing) (event : ArbiterEvent) (w : ArbiterWorld) (poll : Poll) → is_well_formed_beside s event ≡ true → poll_sent s event w ≡ Some poll
+poll_known : (s : Settings) (t : Timing) (event : ArbiterEvent) (w : ArbiterWorld) (poll : Poll) → is_ranked_beside s event ≡ true → poll_sent s event w ≡ Some poll
     → is_configured s poll.from.0 ≡ true
-unfolding is_well_formed_beside poll_sent
+unfolding is_ranked_beside poll_sent
 poll_known s t (beside.One one) w poll form e = none_is_not_some poll e
 poll_known s t (beside.PassWith advance one) w poll form e = none_is_not_some poll e
 poll_known s t (beside.ArbiterBoot base) w poll form e = none_is_not_some poll e
@@ -160,33 +182,16 @@ poll_known s t (beside.Poll rank) w poll form e = by_standing (standing_at s ran
     by_standing None is = none_is_not_some poll is
     by_standing (Some at) is = subst (λ p. is_configured s p.from.0 ≡ true) (same_Some (next_poll rank at (w.pollers rank.0)) poll is) form
 
-reply_known : (s : Settings) (event : ArbiterEvent) (w : ArbiterWorld) (reply : Reply) → Known s w → reply_sent event w ≡ Some reply → is_configured s reply.to.0 ≡ true
-unfolding reply_sent
-reply_known s (beside.One one) w reply known e = none_is_not_some reply e
-reply_known s (beside.PassWith advance one) w reply known e = none_is_not_some reply e
-reply_known s (beside.ArbiterBoot base) w reply known e = none_is_not_some reply e
-reply_known s beside.ArbiterCrash w reply known e = none_is_not_some reply e
-reply_known s (beside.Poll rank) w reply known e = none_is_not_some reply e
-reply_known s (beside.Reply number) w reply known e = none_is_not_some reply e
-reply_known s (beside.Hear number) w reply known e = by_arbiter w.arbiter (poll_at number w) refl e
-  where
-    by_arbiter : (a : Option Arbiter) (p : Option Poll) → poll_at number w ≡ p → option_map_or (λ arbiter. option_map (reply_to arbiter) p) a None ≡ Some reply
-        → is_configured s reply.to.0 ≡ true
-    by_arbiter None p there is = none_is_not_some reply is
-    by_arbiter (Some arbiter) None there is = none_is_not_some reply is
-    by_arbiter (Some arbiter) (Some poll) there is = subst (λ r. is_configured s r.to.0 ≡ true) (same_Some (reply_to arbiter poll) reply is) (known.polls number poll there)
-
 -- the run of the nodes alone
 pub record Plays (s : Settings) (t : Timing) (times : Lease) (events : List ArbiterEvent) : Type 0 where
-  pub allowed : AllAllowed s t (plays s t times events)
+  pub allowed : nodes.IsAllowed s t (plays s t times events)
   pub same : (run_beside s t times events).world ≡ run s t (plays s t times events)
   pub known : Known s (run_beside s t times events)
 
 all_with : (s : Settings) (t : Timing) (o : Option Event) (w : World) (more : List Event) → w ≡ run s t more
-    → ((one : Event) → o ≡ Some one → (is_well_formed s one ≡ true) × (refusal s t one w ≡ None)) → AllAllowed s t more → AllAllowed s t (option_to_list o ++ more)
-unfolding AllAllowed
+    → ((one : Event) → o ≡ Some one → (is_ranked s one ≡ true) × (refusal s t one w ≡ None)) → nodes.IsAllowed s t more → nodes.IsAllowed s t (option_to_list o ++ more)
 all_with s t None w more same may all = all
-all_with s t (Some one) w more same may all = ((may one refl).0, subst (λ v. refusal s t one v ≡ None) same (may one refl).1, all)
+all_with s t (Some one) w more same may all = nodes.OneEvent (may one refl).0 (subst (λ v. refusal s t one v ≡ None) same (may one refl).1) all
 
 same_with : (s : Settings) (t : Timing) (o : Option Event) (w : World) (more : List Event) → w ≡ run s t more
     → option_map_or (λ one. step s t one w) o w ≡ run s t (option_to_list o ++ more)
@@ -195,18 +200,17 @@ same_with s t None w more same = same
 same_with s t (Some one) w more same = ap (λ v. step s t one v) same
 
 first_plays : (s : Settings) (t : Timing) (times : Lease) → Plays s t times []
-unfolding AllAllowed plays run_beside run
+unfolding plays run_beside run
 first_plays s t times = record {
-  allowed = tt;
+  allowed = nodes.NoEvent;
   same = refl;
-  known = record { polls = λ number poll e. none_is_not_some poll e; replies = λ number reply e. none_is_not_some reply e };
+  known = record { polls = λ number poll e. none_is_not_some poll e };
 }
 
-known_step : (s : Settings) (t : Timing) (times : Lease) (event : ArbiterEvent) (earlier : List ArbiterEvent) → is_well_formed_beside s event ≡ true
+known_step : (s : Settings) (t : Timing) (times : Lease) (event : ArbiterEvent) (earlier : List ArbiterEvent) → is_ranked_beside s event ≡ true
     → Known s (run_beside s t times earlier) → Known s (run_beside s t times (event ∷ earlier))
 known_step s t times event earlier form known = record {
   polls = λ number poll e. by_poll number poll (added_item w.polls (poll_sent s event w) number poll (sym (ap (λ ps. slice_get ps number) (polls_now s t times event earlier)) ∙ e));
-  replies = λ number reply e. by_reply number reply (added_item w.replies (reply_sent event w) number reply (sym (ap (λ rs. slice_get rs number) (replies_now s t times event earlier)) ∙ e));
 }
   where
     w : ArbiterWorld
@@ -216,17 +220,13 @@ known_step s t times event earlier form known = record {
     by_poll number poll (inl was) = known.polls number poll was
     by_poll number poll (inr new) = poll_known s t event w poll form new
 
-    by_reply : (number : ℕ) (reply : Reply) → (reply_at number w ≡ Some reply) ⊎ (reply_sent event w ≡ Some reply) → is_configured s reply.to.0 ≡ true
-    by_reply number reply (inl was) = known.replies number reply was
-    by_reply number reply (inr new) = reply_known s event w reply known new
-
 plays_step : {s : Settings} {t : Timing} {times : Lease} {event : ArbiterEvent} {earlier : List ArbiterEvent} → IsAllowed s t times event earlier → Plays s t times earlier
     → Plays s t times (event ∷ earlier)
 plays_step {s = s} {t = t} {times = times} {event = event} {earlier = earlier} it was =
     let w = run_beside s t times earlier in
-    let allowed = all_with s t (played s event w) w.world (plays s t times earlier) was.same (λ one e. played_allowed s t event w one it.form it.ok was.known e) was.allowed in
+    let allowed = all_with s t (played s event w) w.world (plays s t times earlier) was.same (λ one e. played_allowed s t event w one it.form it.ok e) was.allowed in
     record {
-      allowed = subst (λ es. AllAllowed s t es) (sym (plays_now s t times event earlier)) allowed;
+      allowed = subst (λ es. nodes.IsAllowed s t es) (sym (plays_now s t times event earlier)) allowed;
       same = world_now s t times event earlier ∙ same_with s t (played s event w) w.world (plays s t times earlier) was.same
           ∙ sym (ap (λ es. run s t es) (plays_now s t times event earlier));
       known = known_step s t times event earlier it.form was.known;
@@ -264,7 +264,7 @@ node_move {s = s} {t = t} {times = times} {event = event} {earlier = earlier} la
     by_played : (o : Option Event) → played s event (run_beside s t times earlier) ≡ o → NodeMove s t times event earlier rank
     by_played None e = NoMove e (ap (λ w. w.moments) now.same ∙ ap (λ es. (run s t es).moments) (events_are None e) ∙ sym (ap (λ w. w.moments) was.same))
     by_played (Some one) e =
-        let allowed = subst (λ es. AllAllowed s t es) (events_are (Some one) e) now.allowed in
+        let allowed = subst (λ es. nodes.IsAllowed s t es) (events_are (Some one) e) now.allowed in
         let moved = law.move s t one (plays s t times earlier) rank allowed in
         Moves one e
         (subst (λ ms. LogMove s rank one ms (moments_at s t times (event ∷ earlier))) (sym (ap (λ w. w.moments) was.same))

@@ -27,10 +27,14 @@ timed allowed = record {
 pub run_timed : (s : Settings) (t : Timing) (events : List Event) → AllAllowed s t events → IsTimedRun s t (run s t events).moments
 run_timed s t events all = timed (allowed_of s t events all)
 
+pub holder_of_allowed : (s : Settings) (t : Timing) (events : List Event) (i j : ℕ) → is_safe t ≡ true → IsAllowed s t events
+    → is_holder s (run s t events).moments i ≡ true → is_holder s (run s t events).moments j ≡ true → i ≡ j
+holder_of_allowed s t events i j safe allowed first second = at_most_one (timed allowed) safe (run s t events).moments Itself i j first second
+
 pub one_holder : (s : Settings) (t : Timing) (events : List Event) (i j : ℕ) → is_safe t ≡ true → AllAllowed s t events
     → is_holder s (run s t events).moments i ≡ true → is_holder s (run s t events).moments j ≡ true → i ≡ j
-one_holder s t events i j safe all first second = at_most_one (run_timed s t events all) safe (run s t events).moments Itself i j first second
+one_holder s t events i j safe all = holder_of_allowed s t events i j safe (allowed_of s t events all)
 
 -- the same of events with any numbers
 pub one_may_hold : (s : Settings) (t : Timing) → is_safe t ≡ true → OneMayHold s t
-one_may_hold s t safe events i j all first second = at_most_one (timed (may_of s t events all)) safe (run s t events).moments Itself i j first second
+one_may_hold s t safe events i j all = holder_of_allowed s t events i j safe (may_of s t events all)

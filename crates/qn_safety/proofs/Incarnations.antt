@@ -34,22 +34,28 @@ use Rattle.qn_safety.proofs.Apt.{is_apt, apt}
 use Rattle.qn_safety.proofs.Stays.{close_stays, closed_never}
 use Rattle.qn_safety.proofs.Runs.{sound, span}
 use Rattle.qn_safety.proofs.Numbers.{up_number}
-use Rattle.qn_safety.proofs.Events.{allowed_of, stage, moments_grow}
+use Rattle.qn_safety.proofs.Events.{IsAllowed, allowed_of, stage, moments_grow}
 use Rattle.qn_safety.proofs.Rising.{numbers_rise}
-use Rattle.qn_safety.proofs.Holders.{one_holder}
+use Rattle.qn_model.specs.Timing.{is_safe}
+use Rattle.qn_safety.proofs.Holders.{holder_of_allowed}
 
 pub incarnations_rise : (s : Settings) (t : Timing) (events : List Event) → AllAllowed s t events → NumbersRise s (run s t events).moments
 incarnations_rise s t events all = numbers_rise (allowed_of s t events all)
 
--- a node that is up has its number in its slot, and the slot is dirty until its close landed
-pub up_slot : (s : Settings) (t : Timing) (events : List Event) (rank : ℕ) → AllAllowed s t events → IsUp s rank (run s t events).moments
+-- a node that is up has its number in its slot
+pub slot_of_up : (s : Settings) (t : Timing) (events : List Event) (rank : ℕ) → IsAllowed s t events → IsUp s rank (run s t events).moments
     → incarnation (node_at s rank (run s t events)).log ≡ Some ((run s t events).slots rank).incarnation
-up_slot s t events rank all up =
-    let here = stage (allowed_of s t events all) in
+slot_of_up s t events rank allowed up =
+    let here = stage allowed in
     let state = sound here.ruled rank in
     let named = up_number state.made up.booted (state.living up.on) in
     named.has ∙ sym named.claims ∙ ((here.held rank).kept up.on).numbered up.booted
 
+pub up_slot : (s : Settings) (t : Timing) (events : List Event) (rank : ℕ) → AllAllowed s t events → IsUp s rank (run s t events).moments
+    → incarnation (node_at s rank (run s t events)).log ≡ Some ((run s t events).slots rank).incarnation
+up_slot s t events rank all = slot_of_up s t events rank (allowed_of s t events all)
+
+-- and the slot is dirty until its close landed
 pub up_dirty : (s : Settings) (t : Timing) (events : List Event) (rank : ℕ) → AllAllowed s t events → IsUp s rank (run s t events).moments
     → has_landed_close s rank (run s t events) ≡ false → ((run s t events).slots rank).clean ≡ false
 up_dirty s t events rank all up open' = (((stage (allowed_of s t events all)).held rank).kept up.on).dirty up.booted open'
@@ -151,6 +157,10 @@ reported_holder s w i member =
     by_bit (inr there) = in_filter (is_holder s w.moments) i (range_with_len 0 (length s.nodes)) there
 
 -- at most one holder is reported
+pub one_of_allowed : (s : Settings) (t : Timing) (events : List Event) (i j : ℕ) → is_safe t ≡ true → IsAllowed s t events
+    → is_member (holders s (run s t events)) i ≡ true → is_member (holders s (run s t events)) j ≡ true → i ≡ j
+one_of_allowed s t events i j safe allowed first second =
+    holder_of_allowed s t events i j safe allowed (reported_holder s (run s t events) i first) (reported_holder s (run s t events) j second)
+
 pub one_reported : OneReported
-one_reported s t events i j safe all first second =
-    one_holder s t events i j safe all (reported_holder s (run s t events) i first) (reported_holder s (run s t events) j second)
+one_reported s t events i j safe all = one_of_allowed s t events i j safe (allowed_of s t events all)

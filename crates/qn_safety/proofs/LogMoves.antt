@@ -38,7 +38,7 @@ use Rattle.qn_safety.proofs.Runs.{Turn, IsApart, IsPass, IsBoot, IsAdd, IsFeed, 
 use Rattle.qn_safety.proofs.Origins.{booted_log, handed_log, line_of, line_tick, line_what, begin_line, sent_among, Sending}
 use Rattle.qn_safety.proofs.Seats.{seat_of}
 use Rattle.qn_safety.proofs.Held.{Held}
-use Rattle.qn_safety.proofs.Events.{allowed_of, earlier_allowed, newest_allowed, run_step, stage}
+use Rattle.qn_safety.proofs.Events.{IsAllowed, allowed_of, earlier_allowed, newest_allowed, run_step, stage}
 use Rattle.qn_safety.proofs.Says.{PacketReason}
 
 -- true time never falls
@@ -223,10 +223,13 @@ move_step s t rank (event.Stopped other) w ok held ruled = moves s (event.Stoppe
 move_step s t rank (event.Unstopped other) w ok held ruled = moves s (event.Unstopped other) rank (Adds other.0 (what.Stopped false)) w.moments refl (λ own. tt)
 move_step s t rank (event.Leave other) w ok held ruled = moves s (event.Leave other) rank (Adds other.0 what.Leave) w.moments refl (λ own. tt)
 
-pub log_move : (s : Settings) (t : Timing) (e : Event) (earlier : List Event) (rank : ℕ) → AllAllowed s t (e ∷ earlier)
+pub move_of : (s : Settings) (t : Timing) (e : Event) (earlier : List Event) (rank : ℕ) → IsAllowed s t (e ∷ earlier)
     → LogMove s rank e (run s t earlier).moments (run s t (e ∷ earlier)).moments
-log_move s t e earlier rank all =
-    let allowed = allowed_of s t (e ∷ earlier) all in
+move_of s t e earlier rank allowed =
     let here = stage (earlier_allowed allowed) in
     subst (λ w. LogMove s rank e (run s t earlier).moments w.moments) (sym (run_step s t e earlier))
     (move_step s t rank e (run s t earlier) (newest_allowed allowed) here.held here.ruled)
+
+pub log_move : (s : Settings) (t : Timing) (e : Event) (earlier : List Event) (rank : ℕ) → AllAllowed s t (e ∷ earlier)
+    → LogMove s rank e (run s t earlier).moments (run s t (e ∷ earlier)).moments
+log_move s t e earlier rank all = move_of s t e earlier rank (allowed_of s t (e ∷ earlier) all)

@@ -2,6 +2,7 @@ pub mod Answers
 pub mod AnyNumbers
 pub mod Arbiter
 pub mod ArbiterLaws
+pub mod ArbiterNumbers
 pub mod ArbiterPremises
 pub mod ArbiterRules
 pub mod ArbiterSteps

@@ -12,9 +12,10 @@ ghost use Rattle.qn_safety.specs.declared.arbiter_event.ArbiterEvent.{ArbiterEve
 ghost use Rattle.qn_safety.specs.declared.lease.Lease.{Lease};
 ghost use Rattle.qn_safety.specs.ArbiterSteps.{AllAllowedBeside, run_beside};
 ghost use Rattle.qn_safety.specs.ArbiterLaws.{IsQuorateIn, LeasesVote};
+ghost use Rattle.qn_safety.specs.ArbiterNumbers.{OneMayLease};
 ghost use Rattle.qn_safety.specs.ArbiterPremises.{HoldsByVote, VoteGoesOver};
 
-use crate::laws::{law_clocks, law_incarnations, law_no_two_holders, law_runs_are_timed};
+use crate::laws::law_clocks;
 use crate::log_laws::{law_boots, law_log_moves};
 use qn_model::{law_disjoint_votes, law_present_view};
 
@@ -32,9 +33,15 @@ pub fn law_one_lease()
         → IsQuorateIn s i left (run_beside s t times events)
         → ¬ IsQuorateIn s j right (run_beside s t times events) }
 {
-    law_runs_are_timed();
+    law_lease_any_numbers();
+}
+
+/// After events that the rules beside an arbiter allow, whatever their numbers, no two running nodes with disjoint present
+/// views are both quorate: `law_one_lease` is this law of well formed events.
+pub fn law_lease_any_numbers()
+    ensures { (s : Settings) (t : Timing) (times : Lease) → LeasesVote s times → OneMayLease s t times }
+{
     law_clocks();
-    law_incarnations();
     law_boots();
     law_log_moves();
     law_disjoint_votes();
@@ -63,9 +70,7 @@ pub fn law_one_holder_beside()
         → IsTrue (is_member (holders s (run_beside s t times events).world) i)
         → IsTrue (is_member (holders s (run_beside s t times events).world) j)
         → i ≡ j }
-{
-    law_no_two_holders();
-}
+{}
 
 /// The moments of every run of the world beside an arbiter are a timed run, as those of a run without one are: what is proved
 /// of each timed run holds there too.
@@ -73,6 +78,4 @@ pub fn law_runs_beside_are_timed()
     ensures { (s : Settings) (t : Timing) (times : Lease) (events : List ArbiterEvent)
         → AllAllowedBeside s t times events
         → IsTimedRun s t (run_beside s t times events).world.moments }
-{
-    law_runs_are_timed();
-}
+{}

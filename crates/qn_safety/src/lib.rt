@@ -41,8 +41,8 @@ mod triple_laws;
 
 pub use arbiter_event::ArbiterEvent;
 pub use arbiter_laws::{
-    law_leased_vote_goes_over, law_node_holds_by_leased_vote, law_one_holder_beside, law_one_lease,
-    law_runs_beside_are_timed,
+    law_lease_any_numbers, law_leased_vote_goes_over, law_node_holds_by_leased_vote,
+    law_one_holder_beside, law_one_lease, law_runs_beside_are_timed,
 };
 pub use arbiter_reports::{ArbiterReport, Said};
 pub use landing::law_landed_reset;

@@ -9,22 +9,26 @@ use Rattle.qn_base.specs.declared.ids.NodeId.{NodeId}
 use Rattle.qn_model.specs.declared.votes.Answer.{Answer}
 use Rattle.qn_shown.specs.declared.group.Group.{Group}
 use Rattle.qn_shown.specs.declared.group.Group.TheVariants.{NoGroup, Down, Looking, Starting, Runs, Unsure, Stopping, Failed, Stuck, Maintenance, Unattended}
+use Rattle.qn_shown.specs.declared.shown.Arbiter.{Arbiter}
+use Rattle.qn_shown.specs.declared.shown.Candidate.{Candidate}
+use Rattle.qn_shown.specs.declared.shown.Candidate.TheVariants as candidate
 use Rattle.qn_shown.specs.declared.shown.Counts.{Counts}
 use Rattle.qn_shown.specs.declared.shown.Heard.{Heard}
 use Rattle.qn_shown.specs.declared.shown.Heard.TheVariants.{Unsaid, Nothing, Said}
+use Rattle.qn_shown.specs.declared.shown.HostStanding.{HostStanding}
 use Rattle.qn_shown.specs.declared.shown.Mailbox.{Mailbox}
 use Rattle.qn_shown.specs.declared.shown.Peer.{Peer}
 use Rattle.qn_shown.specs.declared.shown.Shown.{Shown}
 use Rattle.qn_shown.specs.declared.shown.ShownView.{ShownView}
 use Rattle.qn_shown.specs.declared.shown.Told.{Told}
 use Rattle.qn_shown.specs.Entries.{Entry, entries_members}
-use Rattle.qn_shown.specs.Fits.{AllOf, Fits, FitsTypes, HeardFits, IsId, OnValue, PeerFits, ToldFits, ViewFits, Within}
+use Rattle.qn_shown.specs.Fits.{AllOf, ArbiterFits, CandidateFits, Fits, FitsTypes, HeardFits, IsId, OnValue, PeerFits, StandingFits, ToldFits, ViewFits, Within}
 use Rattle.qn_shown.specs.Groups.{group_number}
-use Rattle.qn_shown.specs.Kinds.{id_in, mail_in, period_in, phase_in, text_in, time_in, time_text, told_group_in, whole_in}
-use Rattle.qn_shown.specs.Reading.{◌<*>◌, answer_in, counts_in, format_in, group_if_there, heard_of, if_there, ids_in, key_in, mailbox_in, optional_in, or_null, peer_in, peers_in, shown_by, shown_in, shown_of, told_in, view_in}
-use Rattle.qn_shown.specs.Spelling.{group_json, heard_json, id_json, items_of, json_or_null, peer_entries, peer_json, shown_entries, shown_json, shown_text, told_entries, view_entries, view_json, whole}
+use Rattle.qn_shown.specs.Kinds.{device_answer_in, id_in, mail_in, period_in, phase_in, text_in, time_in, time_text, told_group_in, weight_in, whole_in}
+use Rattle.qn_shown.specs.Reading.{◌<*>◌, answer_in, arbiter_in, candidate_of, counts_in, format_in, group_if_there, heard_of, if_there, ids_in, key_in, mailbox_in, optional_in, or_null, peer_in, peers_in, shown_by, shown_in, shown_of, standing_in, told_in, view_in}
+use Rattle.qn_shown.specs.Spelling.{arbiter_entries, arbiter_json, candidate_json, group_json, heard_json, id_json, items_of, json_or_null, peer_entries, peer_json, shown_entries, shown_json, shown_text, standing_entries, standing_json, told_entries, view_entries, view_json, whole}
 use Rattle.qn_shown.proofs.Members.{AreFlat, HaveNumbers, ValueHasNumbers, ValueIsFlat, flat, found, items_flat, items_numbers, last_of, numbers}
-use Rattle.qn_shown.proofs.ValuesBack.{both, group_number_fits, host_group_back, id_back, list_back, mail_back, null_back, period_back, phase_back, text_back, there_back, time_in_back, told_group_back, whole_back}
+use Rattle.qn_shown.proofs.ValuesBack.{both, candidate_back, device_answer_back, group_number_fits, host_group_back, id_back, list_back, mail_back, null_back, period_back, phase_back, text_back, there_back, time_in_back, told_group_back, weight_back, whole_back}
 use Rattle.qn_shown.proofs.Times.{time_number}
 
 -- a key is found, and its value is read
@@ -66,6 +70,13 @@ peer_name_there peer = by_name peer.name
     by_name None = refl
     by_name (Some text) = refl
 
+network_there : (peer : Peer) → last_of (codes "network_down") (peer_entries peer) ≡ option_map whole peer.network_down
+network_there peer = by_network peer.network_down
+  where
+    by_network : (network : Option ℕ) → last_of (codes "network_down") (peer_entries (record peer { network_down = network })) ≡ option_map whole network
+    by_network None = refl
+    by_network (Some n) = refl
+
 refused_there : (peer : Peer) → last_of (codes "refused") (peer_entries peer) ≡ option_map whole peer.refused
 refused_there peer = by_count peer.refused
   where
@@ -85,24 +96,54 @@ peer_back : (peer : Peer) → PeerFits peer → peer_in (peer_json peer) ≡ Som
 peer_back peer fits =
     let es = peer_entries peer in
     let hello = key (or_null whole_in) (codes "hello_tick") es _ peer.hello_tick refl (maybe_whole peer.hello_tick fits.hello_tick) in
-    let step0 = both (Some (λ hello id name refused told. record { hello_tick = hello; id = id; name = name; refused = refused; told = told })) _ _ peer.hello_tick refl hello in
+    let step0 = both (Some (λ hello id name network refused told. record { hello_tick = hello; id = id; name = name; network_down = network; refused = refused; told = told })) _ _ peer.hello_tick refl hello in
     let step1 = both _ _ _ peer.id step0 (key id_in (codes "id") es _ peer.id refl (id_back peer.id fits.id)) in
     let name = ap (if_there (text_in 63)) (found (codes "name") es ∙ peer_name_there peer) ∙ there_back string (text_in 63) (text_back 63) peer.name fits.name in
     let step2 = both _ _ _ peer.name step1 name in
+    let network = ap (if_there whole_in) (found (codes "network_down") es ∙ network_there peer) ∙ there_back whole whole_in whole_back peer.network_down fits.network_down in
+    let step2a = both _ _ _ peer.network_down step2 network in
     let refused = ap (if_there whole_in) (found (codes "refused") es ∙ refused_there peer) ∙ there_back whole whole_in whole_back peer.refused fits.refused in
-    let step3 = both _ _ _ peer.refused step2 refused in
+    let step3 = both _ _ _ peer.refused step2a refused in
     both _ _ _ peer.told step3 (ap heard_of (found (codes "told") es ∙ told_there peer) ∙ heard_back peer.told fits.told)
+
+candidate_there : (view : ShownView) → last_of (codes "candidate") (view_entries view) ≡ candidate_json view.candidate
+candidate_there view = later_value (candidate_json view.candidate)
+  where
+    later_value : (value : Option Json) → later_or None value ≡ value
+    later_value None = refl
+    later_value (Some j) = refl
 
 view_back : (view : ShownView) → ViewFits view → view_in (view_json view) ≡ Some view
 view_back view fits =
     let es = view_entries view in
+    let named = ap candidate_of (found (codes "candidate") es ∙ candidate_there view) ∙ candidate_back view.candidate fits.candidate in
+    let step = both (Some (λ candidate id members. record { candidate = candidate; id = id; members = record { items = members } })) _ _ view.candidate refl named in
     let id = key whole_in (codes "id") es _ view.id refl (whole_back view.id fits.id) in
-    let step0 = both (Some (λ id members. record { id = id; members = record { items = members } })) _ _ view.id refl id in
+    let step0 = both _ _ _ view.id step id in
     both _ _ _ view.members.items step0
     (key ids_in (codes "members") es _ view.members.items refl (list_back id_json id_in id_back view.members.items fits.members fits.count))
 
 maybe_view : (view : Option ShownView) → OnValue ViewFits view → or_null view_in (json_or_null view_json view) ≡ Some view
 maybe_view view fits = null_back view_json view_in view_back (λ view. refl) view fits
+
+arbiter_back : (arbiter : Arbiter) → ArbiterFits arbiter → arbiter_in (arbiter_json arbiter) ≡ Some arbiter
+arbiter_back arbiter fits =
+    let es = arbiter_entries arbiter in
+    let step0 = both (Some (λ address age answer no polls refused yes. record { address = address; age_ms = age; answer = answer; no = no; polls = polls; refused = refused; yes = yes })) _ _ arbiter.address refl (key (or_null (text_in 256)) (codes "address") es _ arbiter.address refl (maybe_text arbiter.address fits.address)) in
+    let step1 = both _ _ _ arbiter.age_ms step0 (key whole_in (codes "age") es _ arbiter.age_ms refl (whole_back _ fits.age_ms)) in
+    let step2 = both _ _ _ arbiter.answer step1 (key device_answer_in (codes "answer") es _ arbiter.answer refl (device_answer_back arbiter.answer)) in
+    let step3 = both _ _ _ arbiter.no step2 (key whole_in (codes "no") es _ arbiter.no refl (whole_back _ fits.no)) in
+    let step4 = both _ _ _ arbiter.polls step3 (key whole_in (codes "polls") es _ arbiter.polls refl (whole_back _ fits.polls)) in
+    let step5 = both _ _ _ arbiter.refused step4 (key whole_in (codes "refused") es _ arbiter.refused refl (whole_back _ fits.refused)) in
+    both _ _ _ arbiter.yes step5 (key whole_in (codes "yes") es _ arbiter.yes refl (whole_back _ fits.yes))
+
+standing_back : (standing : HostStanding) → StandingFits standing → standing_in (standing_json standing) ≡ Some standing
+standing_back standing fits =
+    let es = standing_entries standing in
+    let step0 = both (Some (λ fit pull standby weight. record { fit = fit; pull = pull; standby = standby; weight = weight })) _ _ standing.fit refl (key as_bool (codes "fit") es _ standing.fit refl refl) in
+    let step1 = both _ _ _ standing.pull step0 (key as_bool (codes "pull") es _ standing.pull refl refl) in
+    let step2 = both _ _ _ standing.standby step1 (key as_bool (codes "standby") es _ standing.standby refl refl) in
+    both _ _ _ standing.weight step2 (key weight_in (codes "weight") es _ standing.weight refl (weight_back standing.weight fits))
 
 answer_back : (s : Shown) → FitsTypes s → answer_in (shown_json s) ≡ Some s.answer
 answer_back s fit =
@@ -129,6 +170,38 @@ mailbox_back s fit =
     both _ _ _ s.mailbox.tick step1 (key (or_null whole_in) (codes "mail_tick") es _ s.mailbox.tick refl (maybe_whole s.mailbox.tick fit.mailbox.tick))
 
 -- a key that may be left out
+there : {A : Type 0} (spells : A → Json) (value : Option A) → later_or None (option_map spells value) ≡ option_map spells value
+there spells None = refl
+there spells (Some a) = refl
+
+arbiter_key : (s : Shown) → FitsTypes s → optional_in arbiter_in (codes "arbiter") (shown_json s) ≡ Some s.arbiter
+arbiter_key s fit =
+    ap (if_there arbiter_in) (found (codes "arbiter") (shown_entries s) ∙ there arbiter_json s.arbiter)
+    ∙ there_back arbiter_json arbiter_in arbiter_back s.arbiter fit.arbiter
+
+images_there : (s : Shown) → last_of (codes "images") (shown_entries s) ≡ option_map whole s.images
+images_there s = by_count s.images
+  where
+    by_count : (count : Option ℕ) → last_of (codes "images") (shown_entries (record s { images = count })) ≡ option_map whole count
+    by_count None = refl
+    by_count (Some n) = refl
+
+images_back : (s : Shown) → FitsTypes s → optional_in whole_in (codes "images") (shown_json s) ≡ Some s.images
+images_back s fit =
+    ap (if_there whole_in) (found (codes "images") (shown_entries s) ∙ images_there s) ∙ there_back whole whole_in whole_back s.images fit.images
+
+standing_there : (s : Shown) → last_of (codes "standing") (shown_entries s) ≡ option_map standing_json s.standing
+standing_there s = by_words s.standing
+  where
+    by_words : (standing : Option HostStanding) → last_of (codes "standing") (shown_entries (record s { standing = standing })) ≡ option_map standing_json standing
+    by_words None = refl
+    by_words (Some words) = refl
+
+standing_key : (s : Shown) → FitsTypes s → optional_in standing_in (codes "standing") (shown_json s) ≡ Some s.standing
+standing_key s fit =
+    ap (if_there standing_in) (found (codes "standing") (shown_entries s) ∙ standing_there s)
+    ∙ there_back standing_json standing_in standing_back s.standing fit.standing
+
 name_there : (s : Shown) → last_of (codes "name") (shown_entries s) ≡ option_map string s.name
 name_there s = by_name s.name
   where
@@ -143,7 +216,7 @@ name_back s fit =
 group_there : (s : Shown) → last_of (codes "group") (shown_entries s) ≡ group_json s.group
 group_there s = later_value (group_json s.group)
   where
-    later_value : (value : Option Json) → later_or (later_or (later_or (later_or value None) None) None) None ≡ value
+    later_value : (value : Option Json) → later_or (later_or (later_or (later_or (later_or value None) None) None) None) None ≡ value
     later_value None = refl
     later_value (Some j) = refl
 
@@ -170,20 +243,23 @@ read_shown s fit =
     let es = shown_entries s in
     let step0 = both (Some shown_by) _ _ tt refl (format_back s) in
     let step1 = both _ _ _ s.answer step0 (answer_back s fit) in
-    let step2 = both _ _ _ s.counts step1 (counts_back s fit) in
+    let step1a = both _ _ _ s.arbiter step1 (arbiter_key s fit) in
+    let step2 = both _ _ _ s.counts step1a (counts_back s fit) in
     let step3 = both _ _ _ s.end step2 (key (or_null (text_in 256)) (codes "end") es _ s.end refl (maybe_text s.end fit.end)) in
     let step3a = both _ _ _ s.group step3 (group_back s) in
     let step3b = both _ _ _ s.held_ms step3a (held_back s fit) in
     let step4 = both _ _ _ s.holds step3b (key as_bool (codes "holds") es _ s.holds refl refl) in
     let step5 = both _ _ _ s.id step4 (key id_in (codes "id") es _ s.id refl (id_back s.id fit.id)) in
-    let step6 = both _ _ _ s.incarnation step5 (key (or_null whole_in) (codes "incarnation") es _ s.incarnation refl (maybe_whole s.incarnation fit.incarnation)) in
+    let step5a = both _ _ _ s.images step5 (images_back s fit) in
+    let step6 = both _ _ _ s.incarnation step5a (key (or_null whole_in) (codes "incarnation") es _ s.incarnation refl (maybe_whole s.incarnation fit.incarnation)) in
     let step7 = both _ _ _ s.loop_ms step6 (key period_in (codes "loop") es _ s.loop_ms refl (period_back s.loop_ms fit.loop_ms)) in
     let step8 = both _ _ _ s.mailbox step7 (mailbox_back s fit) in
     let step9 = both _ _ _ s.name step8 (name_back s fit) in
     let step10 = both _ _ _ s.peers.items step9 (key peers_in (codes "peers") es _ s.peers.items refl (list_back peer_json peer_in peer_back s.peers.items fit.peers fit.peer_count)) in
     let step11 = both _ _ _ s.phase step10 (key phase_in (codes "phase") es _ s.phase refl (phase_back s.phase)) in
     let step12 = both _ _ _ s.pid step11 (key whole_in (codes "pid") es _ s.pid refl (whole_back s.pid fit.pid)) in
-    let step13 = both _ _ _ s.tick step12 (key whole_in (codes "tick") es _ s.tick refl (whole_back s.tick fit.tick)) in
+    let step12a = both _ _ _ s.standing step12 (standing_key s fit) in
+    let step13 = both _ _ _ s.tick step12a (key whole_in (codes "tick") es _ s.tick refl (whole_back s.tick fit.tick)) in
     let step14 = both _ _ _ s.time_ms step13 (key time_in (codes "time") es _ s.time_ms refl (time_in_back s.time_ms fit.time_ms)) in
     let step15 = both _ _ _ s.view step14 (key (or_null view_in) (codes "view") es _ s.view refl (maybe_view s.view fit.view)) in
     both _ _ _ s.why step15 (key (text_in 256) (codes "why") es _ s.why refl (text_back 256 s.why fit.why))
@@ -203,6 +279,10 @@ there_number : {A : Type 0} {P : A → Type 0} (spells : A → Json) → ((a : A
 there_number spells one None fits = tt
 there_number spells one (Some a) fits = one a fits
 
+text_number : (text : Option (List ℕ)) → HasNumbers (json_or_null string text)
+text_number None = tt
+text_number (Some text) = tt
+
 text_there_number : (text : Option (List ℕ)) → ValueHasNumbers (option_map string text)
 text_there_number None = tt
 text_there_number (Some text) = tt
@@ -218,7 +298,7 @@ heard_number (Said told tick) fits =
 peer_number : (peer : Peer) → PeerFits peer → HasNumbers (peer_json peer)
 peer_number peer fits =
     numbers (peer_entries peer)
-    (null_number whole whole_number peer.hello_tick fits.hello_tick, (id_number peer.id fits.id, (text_there_number peer.name, (there_number whole whole_number peer.refused fits.refused, (heard_number peer.told fits.told, tt)))))
+    (null_number whole whole_number peer.hello_tick fits.hello_tick, (id_number peer.id fits.id, (text_there_number peer.name, (there_number whole whole_number peer.network_down fits.network_down, (there_number whole whole_number peer.refused fits.refused, (heard_number peer.told fits.told, tt))))))
 
 group_json_number : (group : Group) → ValueHasNumbers (group_json group)
 group_json_number NoGroup = tt
@@ -233,16 +313,28 @@ group_json_number Stuck = whole_number 8 (omega arith)
 group_json_number Maintenance = whole_number 9 (omega arith)
 group_json_number Unattended = tt
 
-view_number : (view : ShownView) → ViewFits view → HasNumbers (view_json view)
-view_number view fits = (whole_number view.id fits.id, (items_numbers id_json id_number view.members.items fits.members, tt))
+candidate_number : (candidate : Candidate) → CandidateFits candidate → ValueHasNumbers (candidate_json candidate)
+candidate_number candidate.Unsaid fits = tt
+candidate_number candidate.Unnamed fits = tt
+candidate_number candidate.Nobody fits = whole_number 0 (omega arith)
+candidate_number (candidate.Named id) fits = id_number id fits
 
-text_number : (text : Option (List ℕ)) → HasNumbers (json_or_null string text)
-text_number None = tt
-text_number (Some text) = tt
+view_number : (view : ShownView) → ViewFits view → HasNumbers (view_json view)
+view_number view fits =
+    numbers (view_entries view)
+    (candidate_number view.candidate fits.candidate, (whole_number view.id fits.id, (items_numbers id_json id_number view.members.items fits.members, tt)))
+
+arbiter_number : (arbiter : Arbiter) → ArbiterFits arbiter → HasNumbers (arbiter_json arbiter)
+arbiter_number arbiter fits =
+    numbers (arbiter_entries arbiter)
+    (text_number arbiter.address, (whole_number arbiter.age_ms fits.age_ms, (tt, (whole_number arbiter.no fits.no, (whole_number arbiter.polls fits.polls, (whole_number arbiter.refused fits.refused, (whole_number arbiter.yes fits.yes, tt)))))))
+
+standing_number : (standing : HostStanding) → StandingFits standing → HasNumbers (standing_json standing)
+standing_number standing fits = (tt, (tt, (tt, (whole_number standing.weight (omega (arith, fits)), tt))))
 
 shown_number : (s : Shown) → FitsTypes s → HaveNumbers (shown_entries s)
 shown_number s fit =
-    (whole_number s.counts.dropped fit.counts.dropped, (text_number s.end, (whole_number s.answer.expected fit.answer.expected, (IsNumber-decimal 1 (omega arith), (group_json_number s.group, (there_number whole whole_number s.held_ms fit.held_ms, (tt, (id_number s.id fit.id, (null_number whole whole_number s.incarnation fit.incarnation, (whole_number s.counts.late fit.counts.late, (whole_number s.loop_ms (omega (arith, fit.loop_ms)), (tt, (null_number id_json id_number s.mailbox.by fit.mailbox.by, (null_number whole whole_number s.mailbox.tick fit.mailbox.tick, (text_there_number s.name, (items_numbers peer_json peer_number s.peers.items fit.peers, (tt, (whole_number s.pid fit.pid, (tt, (whole_number s.answer.quorum fit.answer.quorum, (whole_number s.counts.refused fit.counts.refused, (tt, (whole_number s.tick fit.tick, (time_number s.time_ms fit.time_ms, (whole_number s.counts.unwritten fit.counts.unwritten, (null_number view_json view_number s.view fit.view, (whole_number s.answer.votes fit.answer.votes, (tt, tt))))))))))))))))))))))))))))
+    (there_number arbiter_json arbiter_number s.arbiter fit.arbiter, (whole_number s.counts.dropped fit.counts.dropped, (text_number s.end, (whole_number s.answer.expected fit.answer.expected, (IsNumber-decimal 1 (omega arith), (group_json_number s.group, (there_number whole whole_number s.held_ms fit.held_ms, (tt, (id_number s.id fit.id, (there_number whole whole_number s.images fit.images, (null_number whole whole_number s.incarnation fit.incarnation, (whole_number s.counts.late fit.counts.late, (whole_number s.loop_ms (omega (arith, fit.loop_ms)), (tt, (null_number id_json id_number s.mailbox.by fit.mailbox.by, (null_number whole whole_number s.mailbox.tick fit.mailbox.tick, (text_there_number s.name, (items_numbers peer_json peer_number s.peers.items fit.peers, (tt, (whole_number s.pid fit.pid, (tt, (whole_number s.answer.quorum fit.answer.quorum, (whole_number s.counts.refused fit.counts.refused, (tt, (there_number standing_json standing_number s.standing fit.standing, (whole_number s.tick fit.tick, (time_number s.time_ms fit.time_ms, (whole_number s.counts.unwritten fit.counts.unwritten, (null_number view_json view_number s.view fit.view, (whole_number s.answer.votes fit.answer.votes, (tt, tt)))))))))))))))))))))))))))))))
 
 -- how deep it nests
 flat_or_null : {A : Type 0} (most : ℕ) (spells : A → Json) → ((a : A) → depth (spells a) ≤ most) → (o : Option A) → depth (json_or_null spells o) ≤ most
@@ -261,7 +353,7 @@ heard_flat (Said told tick) = omega arith
 peer_flat : (peer : Peer) → depth (peer_json peer) ≤ 2
 peer_flat peer =
     let no : 0 ≤ 1 = omega arith in
-    let all = flat 1 (peer_entries peer) (flat_or_null 1 whole (λ n. omega arith) peer.hello_tick, (no, (there_flat 1 string (λ text. omega arith) peer.name, (there_flat 1 whole (λ n. omega arith) peer.refused, (heard_flat peer.told, tt))))) in
+    let all = flat 1 (peer_entries peer) (flat_or_null 1 whole (λ n. omega arith) peer.hello_tick, (no, (there_flat 1 string (λ text. omega arith) peer.name, (there_flat 1 whole (λ n. omega arith) peer.network_down, (there_flat 1 whole (λ n. omega arith) peer.refused, (heard_flat peer.told, tt)))))) in
     omega (arith, all)
 
 group_flat : (group : Group) → ValueIsFlat 3 (group_json group)
@@ -277,8 +369,26 @@ group_flat Stuck = omega arith
 group_flat Maintenance = omega arith
 group_flat Unattended = omega arith
 
+candidate_flat : (candidate : Candidate) → ValueIsFlat 1 (candidate_json candidate)
+candidate_flat candidate.Unsaid = tt
+candidate_flat candidate.Unnamed = omega arith
+candidate_flat candidate.Nobody = omega arith
+candidate_flat (candidate.Named id) = omega arith
+
+ids_flat : (ids : List NodeId) → depth (array (items_of id_json ids)) ≤ 1
+ids_flat ids = let one = items_flat 0 id_json (λ id. omega arith) ids in omega (arith, one)
+
 view_flat : (view : ShownView) → depth (view_json view) ≤ 2
-view_flat view = let ids = items_flat 0 id_json (λ id. omega arith) view.members.items in omega (arith, ids)
+view_flat view =
+    let no : 0 ≤ 1 = omega arith in
+    let all = flat 1 (view_entries view) (candidate_flat view.candidate, (no, (ids_flat view.members.items, tt))) in
+    omega (arith, all)
+
+arbiter_flat : (arbiter : Arbiter) → depth (arbiter_json arbiter) ≤ 3
+arbiter_flat arbiter =
+    let no : 0 ≤ 1 = omega arith in
+    let all = flat 1 (arbiter_entries arbiter) (flat_or_null 1 string (λ text. omega arith) arbiter.address, (no, (no, (no, (no, (no, (no, tt))))))) in
+    omega (arith, all)
 
 peers_flat : (peers : List Peer) → depth (array (items_of peer_json peers)) ≤ 3
 peers_flat peers = let one = items_flat 2 peer_json peer_flat peers in omega (arith, one)
@@ -289,7 +399,7 @@ view_in_three view = let one = flat_or_null 2 view_json view_flat view in omega 
 shown_flat : (s : Shown) → AreFlat 3 (shown_entries s)
 shown_flat s =
     let zero : 0 ≤ 3 = omega arith in
-    (zero, (flat_or_null 3 string (λ text. omega arith) s.end, (zero, (zero, (group_flat s.group, (there_flat 3 whole (λ n. omega arith) s.held_ms, (zero, (zero, (flat_or_null 3 whole (λ n. omega arith) s.incarnation, (zero, (zero, (zero, (flat_or_null 3 id_json (λ id. omega arith) s.mailbox.by, (flat_or_null 3 whole (λ n. omega arith) s.mailbox.tick, (there_flat 3 string (λ text. omega arith) s.name, (peers_flat s.peers.items, (zero, (zero, (zero, (zero, (zero, (zero, (zero, (zero, (zero, (view_in_three s.view, (zero, (zero, tt))))))))))))))))))))))))))))
+    (there_flat 3 arbiter_json arbiter_flat s.arbiter, (zero, (flat_or_null 3 string (λ text. omega arith) s.end, (zero, (zero, (group_flat s.group, (there_flat 3 whole (λ n. omega arith) s.held_ms, (zero, (zero, (there_flat 3 whole (λ n. omega arith) s.images, (flat_or_null 3 whole (λ n. omega arith) s.incarnation, (zero, (zero, (zero, (flat_or_null 3 id_json (λ id. omega arith) s.mailbox.by, (flat_or_null 3 whole (λ n. omega arith) s.mailbox.tick, (there_flat 3 string (λ text. omega arith) s.name, (peers_flat s.peers.items, (zero, (zero, (zero, (zero, (zero, (zero, (there_flat 3 standing_json (λ standing. omega arith) s.standing, (zero, (zero, (zero, (view_in_three s.view, (zero, (zero, tt)))))))))))))))))))))))))))))))
 
 pub read_back : (s : Shown) → FitsTypes s → shown_in (shown_text s) ≡ Some s
 read_back s fit =

@@ -1,6 +1,7 @@
 -- Each kind of a value is read back.
-use Rattle.std.proofs.Common.{◌≡◌, ◌≤◌, ℕ, ◌<◌, ◌&&◌, ◌^◌, true, false, Bool, List, [], ◌∷◌, Option, Some, None, option_and_then, option_map, length, refl, ap, ap₂, ◌∙◌, decimal, arith, nat_le, nat_lt, if◌then◌else◌}
+use Rattle.std.proofs.Common.{◌≡◌, ◌≤◌, ℕ, ◌<◌, ◌&&◌, ◌==◌, ◌^◌, true, false, Bool, List, [], ◌∷◌, Option, Some, None, option_and_then, option_map, length, refl, ap, ap₂, ◌∙◌, decimal, arith, nat_le, nat_lt, if◌then◌else◌}
 use Rattle.std.proofs.lemmas.Bool.{le-leb, lt-ltb}
+use Rattle.std.proofs.lemmas.Bool.Decides.{nat_tests}
 use Rattle.json.specs.Json.{Json, boolean, number, string, array}
 use Rattle.json.specs.Find.{as_bool}
 use Rattle.qn_base.specs.declared.ids.NodeId.{NodeId}
@@ -11,14 +12,18 @@ use Rattle.qn_model.specs.declared.life.Phase.TheVariants.{Booting, Up, Leaving,
 use Rattle.qn_names.specs.PhaseNames.{phase_name}
 use Rattle.qn_shown.specs.declared.group.Group.{Group}
 use Rattle.qn_shown.specs.declared.group.Group.TheVariants.{NoGroup, Down, Looking, Starting, Runs, Unsure, Stopping, Failed, Stuck, Maintenance, Unattended}
+use Rattle.qn_shown.specs.declared.shown.Candidate.{Candidate}
+use Rattle.qn_shown.specs.declared.shown.Candidate.TheVariants as candidate
+use Rattle.qn_shown.specs.declared.words.DeviceAnswer.{DeviceAnswer}
+use Rattle.qn_shown.specs.declared.words.DeviceAnswer.TheVariants.{Yes, No, Silent}
 use Rattle.qn_shown.specs.declared.words.MailState.{MailState}
 use Rattle.qn_shown.specs.declared.words.MailState.TheVariants.{Holds, Damaged, Failed, Unread}
-use Rattle.qn_shown.specs.Fits.{AllOf, Fits, IsId, OnValue, Within}
+use Rattle.qn_shown.specs.Fits.{AllOf, CandidateFits, Fits, IsId, OnValue, Within}
 use Rattle.qn_shown.specs.Groups.{group_number, group_of}
-use Rattle.qn_shown.specs.Kinds.{id_in, id_of, mail_in, period_in, period_of, phase_in, said_group, text_in, text_of, time_in, time_text, told_group_in, whole_in}
-use Rattle.qn_shown.specs.Reading.{◌<*>◌, all_in, few, group_if_there, if_there, list_in, or_null}
-use Rattle.qn_shown.specs.Spelling.{group_json, id_json, items_of, json_or_null, whole}
-use Rattle.qn_shown.specs.Words.{mail_word}
+use Rattle.qn_shown.specs.Kinds.{device_answer_in, id_in, id_of, mail_in, period_in, period_of, phase_in, said_group, text_in, text_of, time_in, time_text, told_group_in, weight_in, weight_of, whole_in}
+use Rattle.qn_shown.specs.Reading.{◌<*>◌, all_in, candidate_of, few, group_if_there, if_there, list_in, named_by, or_null}
+use Rattle.qn_shown.specs.Spelling.{candidate_json, group_json, id_json, items_of, json_or_null, whole}
+use Rattle.qn_shown.specs.Words.{answer_word, mail_word}
 use Rattle.qn_shown.proofs.Times.{time_back}
 
 pub whole_back : (n : ℕ) → Fits n → whole_in (whole n) ≡ Some n
@@ -33,6 +38,31 @@ id_back id is =
 pub period_back : (n : ℕ) → n ≤ 3600000 → period_in (whole n) ≡ Some n
 period_back n short =
     ap (option_and_then period_of) (whole_back n (omega (arith, short))) ∙ ap (λ test. if test then Some n else None) (le-leb n 3600000 short)
+
+pub weight_back : (n : ℕ) → n ≤ 254 → weight_in (whole n) ≡ Some n
+weight_back n small =
+    ap (option_and_then weight_of) (whole_back n (omega (arith, small))) ∙ ap (λ test. if test then Some n else None) (le-leb n 254 small)
+
+-- an id that is read is a number above 0
+named_back : (id : NodeId) → IsId id → named_by id.0 ≡ Some (candidate.Named id)
+named_back id is =
+    let known : id_of id.0 ≡ Some id = ap (λ test. if test then Some id else None) (ap₂ (λ a b. a && b) (lt-ltb 0 id.0 is.0) (lt-ltb id.0 (2 ^ 32) is.1)) in
+    ap (λ test. if test then Some candidate.Nobody else option_map (λ id. candidate.Named id) (id_of id.0)) (no_zero id.0 is.0)
+    ∙ ap (option_map (λ id. candidate.Named id)) known
+  where
+    no_zero : (n : ℕ) → 0 < n → (n == 0) ≡ false
+    no_zero n positive = grind (arith, nat_tests)
+
+pub candidate_back : (candidate : Candidate) → CandidateFits candidate → candidate_of (candidate_json candidate) ≡ Some candidate
+candidate_back candidate.Unsaid fits = refl
+candidate_back candidate.Unnamed fits = refl
+candidate_back candidate.Nobody fits = ap (option_and_then named_by) (whole_back 0 (omega arith))
+candidate_back (candidate.Named id) fits = ap (option_and_then named_by) (whole_back id.0 (omega (arith, fits.1))) ∙ named_back id fits
+
+pub device_answer_back : (answer : DeviceAnswer) → device_answer_in (string (answer_word answer)) ≡ Some answer
+device_answer_back Yes = refl
+device_answer_back No = refl
+device_answer_back Silent = refl
 
 pub text_back : (most : ℕ) (text : List ℕ) → Within most text → text_in most (string text) ≡ Some text
 text_back most text within = ap (λ test. if test then Some text else None) (le-leb (length text) most within)

@@ -6,9 +6,10 @@ use Rattle.qn_base.specs.declared.ids.NodeId.{NodeId}
 use Rattle.qn_base.specs.Decimal.{number_of}
 use Rattle.qn_model.specs.declared.life.Phase.{Phase}
 use Rattle.qn_shown.specs.declared.group.Group.{Group}
+use Rattle.qn_shown.specs.declared.words.DeviceAnswer.{DeviceAnswer}
 use Rattle.qn_shown.specs.declared.words.MailState.{MailState}
 use Rattle.qn_shown.specs.Groups.{group_number, group_of}
-use Rattle.qn_shown.specs.Words.{mail_named, phase_named}
+use Rattle.qn_shown.specs.Words.{answer_named, mail_named, phase_named}
 
 -- a whole number of 64 bits
 abbrev pub whole_in : Json → Option ℕ
@@ -28,6 +29,13 @@ period_of n = if nat_le n 3600000 then Some n else None
 abbrev pub period_in : Json → Option ℕ
 period_in j = option_and_then period_of (whole_in j)
 
+-- how gladly a node is chosen: 254 at most
+abbrev pub weight_of : ℕ → Option ℕ
+weight_of n = if nat_le n 254 then Some n else None
+
+abbrev pub weight_in : Json → Option ℕ
+weight_in j = option_and_then weight_of (whole_in j)
+
 -- a text that is not longer
 abbrev pub text_of : ℕ → List ℕ → Option (List ℕ)
 text_of most text = if nat_le (length text) most then Some text else None
@@ -40,6 +48,9 @@ phase_in j = option_and_then phase_named (as_str j)
 
 abbrev pub mail_in : Json → Option MailState
 mail_in j = option_and_then mail_named (as_str j)
+
+abbrev pub device_answer_in : Json → Option DeviceAnswer
+device_answer_in j = option_and_then answer_named (as_str j)
 
 -- the group that a node told
 abbrev pub told_group_in : Json → Option Group

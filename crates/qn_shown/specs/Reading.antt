@@ -9,14 +9,18 @@ use Rattle.qn_shown.specs.declared.fault.ShownFault.{ShownFault}
 use Rattle.qn_shown.specs.declared.fault.ShownFault.TheVariants.{Format, Key, NoMemory, NotJson, Repeated}
 use Rattle.qn_shown.specs.declared.group.Group.{Group}
 use Rattle.qn_shown.specs.declared.group.Group.TheVariants.{NoGroup, Unattended}
+use Rattle.qn_shown.specs.declared.shown.Arbiter.{Arbiter}
+use Rattle.qn_shown.specs.declared.shown.Candidate.{Candidate}
+use Rattle.qn_shown.specs.declared.shown.Candidate.TheVariants as candidate
 use Rattle.qn_shown.specs.declared.shown.Counts.{Counts}
 use Rattle.qn_shown.specs.declared.shown.Heard.{Heard}
 use Rattle.qn_shown.specs.declared.shown.Heard.TheVariants.{Unsaid, Nothing, Said}
+use Rattle.qn_shown.specs.declared.shown.HostStanding.{HostStanding}
 use Rattle.qn_shown.specs.declared.shown.Mailbox.{Mailbox}
 use Rattle.qn_shown.specs.declared.shown.Peer.{Peer}
 use Rattle.qn_shown.specs.declared.shown.Shown.{Shown}
 use Rattle.qn_shown.specs.declared.shown.ShownView.{ShownView}
-use Rattle.qn_shown.specs.Kinds.{host_group_in, id_in, mail_in, period_in, phase_in, text_in, time_in, told_group_in, whole_in}
+use Rattle.qn_shown.specs.Kinds.{device_answer_in, host_group_in, id_in, id_of, mail_in, period_in, phase_in, text_in, time_in, told_group_in, weight_in, whole_in}
 
 -- the value of a key, read so
 abbrev pub key_in : {A : Type 0} → (Json → Option A) → List ℕ → Json → Option A
@@ -79,19 +83,54 @@ heard_of (Some j) = if is_null j then Some Nothing else told_in j
 
 abbrev pub peer_in : Json → Option Peer
 peer_in j =
-    Some (λ hello id name refused told. record { hello_tick = hello; id = id; name = name; refused = refused; told = told })
+    Some (λ hello id name network refused told.
+    record { hello_tick = hello; id = id; name = name; network_down = network; refused = refused; told = told })
     <*> key_in (or_null whole_in) (codes "hello_tick") j
     <*> key_in id_in (codes "id") j
     <*> optional_in (text_in 63) (codes "name") j
+    <*> optional_in whole_in (codes "network_down") j
     <*> optional_in whole_in (codes "refused") j
     <*> heard_of (get (codes "told") j)
 
 abbrev pub peers_in : Json → Option (List Peer)
 peers_in = list_in peer_in
 
+-- whom a view names: 0 that none may start, else a node
+abbrev pub named_by : ℕ → Option Candidate
+named_by n = if n == 0 then Some candidate.Nobody else option_map (λ id. candidate.Named id) (id_of n)
+
+abbrev pub candidate_of : Option Json → Option Candidate
+candidate_of None = Some candidate.Unsaid
+candidate_of (Some j) = if is_null j then Some candidate.Unnamed else option_and_then named_by (whole_in j)
+
 abbrev pub view_in : Json → Option ShownView
 view_in j =
-    Some (λ id members. record { id = id; members = record { items = members } }) <*> key_in whole_in (codes "id") j <*> key_in ids_in (codes "members") j
+    Some (λ candidate id members. record { candidate = candidate; id = id; members = record { items = members } })
+    <*> candidate_of (get (codes "candidate") j)
+    <*> key_in whole_in (codes "id") j
+    <*> key_in ids_in (codes "members") j
+
+-- what was heard of the arbiter
+abbrev pub arbiter_in : Json → Option Arbiter
+arbiter_in j =
+    Some (λ address age answer no polls refused yes.
+    record { address = address; age_ms = age; answer = answer; no = no; polls = polls; refused = refused; yes = yes })
+    <*> key_in (or_null (text_in 256)) (codes "address") j
+    <*> key_in whole_in (codes "age") j
+    <*> key_in device_answer_in (codes "answer") j
+    <*> key_in whole_in (codes "no") j
+    <*> key_in whole_in (codes "polls") j
+    <*> key_in whole_in (codes "refused") j
+    <*> key_in whole_in (codes "yes") j
+
+-- what the host says
+abbrev pub standing_in : Json → Option HostStanding
+standing_in j =
+    Some (λ fit pull standby weight. record { fit = fit; pull = pull; standby = standby; weight = weight })
+    <*> key_in as_bool (codes "fit") j
+    <*> key_in as_bool (codes "pull") j
+    <*> key_in as_bool (codes "standby") j
+    <*> key_in weight_in (codes "weight") j
 
 abbrev pub answer_in : Json → Option Answer
 answer_in j =
@@ -122,16 +161,18 @@ abbrev pub format_in : Json → Option (Unit {0})
 format_in j = option_and_then (λ format. if format == 1 then Some tt else None) (key_in whole_in (codes "format") j)
 
 -- what is shown, made of its parts
-abbrev pub shown_by : Unit {0} → Answer → Counts → Option (List ℕ) → Group → Option ℕ → Bool → NodeId → Option ℕ → ℕ → Mailbox → Option (List ℕ) → List Peer → Phase → ℕ → ℕ → ℕ → Option ShownView → List ℕ → Shown
-shown_by format answer counts end group held_ms holds id incarnation loop_ms mailbox name peers phase pid tick time_ms view why =
+abbrev pub shown_by : Unit {0} → Answer → Option Arbiter → Counts → Option (List ℕ) → Group → Option ℕ → Bool → NodeId → Option ℕ → Option ℕ → ℕ → Mailbox → Option (List ℕ) → List Peer → Phase → ℕ → Option HostStanding → ℕ → ℕ → Option ShownView → List ℕ → Shown
+shown_by format answer arbiter counts end group held_ms holds id images incarnation loop_ms mailbox name peers phase pid standing tick time_ms view why =
     record {
       answer = answer;
+      arbiter = arbiter;
       counts = counts;
       end = end;
       group = group;
       held_ms = held_ms;
       holds = holds;
       id = id;
+      images = images;
       incarnation = incarnation;
       loop_ms = loop_ms;
       mailbox = mailbox;
@@ -139,6 +180,7 @@ shown_by format answer counts end group held_ms holds id incarnation loop_ms mai
       peers = record { items = peers };
       phase = phase;
       pid = pid;
+      standing = standing;
       tick = tick;
       time_ms = time_ms;
       view = view;
@@ -150,12 +192,14 @@ shown_of j =
     Some shown_by
     <*> format_in j
     <*> answer_in j
+    <*> optional_in arbiter_in (codes "arbiter") j
     <*> counts_in j
     <*> key_in (or_null (text_in 256)) (codes "end") j
     <*> group_if_there (get (codes "group") j)
     <*> optional_in whole_in (codes "held_ms") j
     <*> key_in as_bool (codes "holds") j
     <*> key_in id_in (codes "id") j
+    <*> optional_in whole_in (codes "images") j
     <*> key_in (or_null whole_in) (codes "incarnation") j
     <*> key_in period_in (codes "loop") j
     <*> mailbox_in j
@@ -163,6 +207,7 @@ shown_of j =
     <*> key_in peers_in (codes "peers") j
     <*> key_in phase_in (codes "phase") j
     <*> key_in whole_in (codes "pid") j
+    <*> optional_in standing_in (codes "standing") j
     <*> key_in whole_in (codes "tick") j
     <*> key_in time_in (codes "time") j
     <*> key_in (or_null view_in) (codes "view") j

@@ -7,8 +7,12 @@ use Rattle.qn_base.specs.declared.ids.NodeId.{NodeId}
 use Rattle.qn_names.specs.PhaseNames.{phase_name}
 use Rattle.qn_shown.specs.declared.group.Group.{Group}
 use Rattle.qn_shown.specs.declared.group.Group.TheVariants.{NoGroup, Down, Looking, Starting, Runs, Unsure, Stopping, Failed, Stuck, Maintenance, Unattended}
+use Rattle.qn_shown.specs.declared.shown.Arbiter.{Arbiter}
+use Rattle.qn_shown.specs.declared.shown.Candidate.{Candidate}
+use Rattle.qn_shown.specs.declared.shown.Candidate.TheVariants as candidate
 use Rattle.qn_shown.specs.declared.shown.Heard.{Heard}
 use Rattle.qn_shown.specs.declared.shown.Heard.TheVariants.{Unsaid, Nothing, Said}
+use Rattle.qn_shown.specs.declared.shown.HostStanding.{HostStanding}
 use Rattle.qn_shown.specs.declared.shown.Peer.{Peer}
 use Rattle.qn_shown.specs.declared.shown.Shown.{Shown}
 use Rattle.qn_shown.specs.declared.shown.ShownView.{ShownView}
@@ -16,7 +20,7 @@ use Rattle.qn_shown.specs.declared.shown.Told.{Told}
 use Rattle.qn_shown.specs.Entries.{Entry, entries_members}
 use Rattle.qn_shown.specs.Groups.{group_number}
 use Rattle.qn_shown.specs.Kinds.{time_text}
-use Rattle.qn_shown.specs.Words.{mail_word}
+use Rattle.qn_shown.specs.Words.{answer_word, mail_word}
 
 abbrev pub whole : ℕ → Json
 whole n = number (decimal n)
@@ -54,6 +58,7 @@ peer_entries peer =
     (codes "hello_tick", Some (json_or_null whole peer.hello_tick))
     ∷ (codes "id", Some (id_json peer.id))
     ∷ (codes "name", option_map string peer.name)
+    ∷ (codes "network_down", option_map whole peer.network_down)
     ∷ (codes "refused", option_map whole peer.refused)
     ∷ (codes "told", heard_json peer.told)
     ∷ []
@@ -61,11 +66,49 @@ peer_entries peer =
 abbrev pub peer_json : Peer → Json
 peer_json peer = object (entries_members (peer_entries peer))
 
+-- whom a view names: null is nobody in particular, 0 that none may start
+abbrev pub candidate_json : Candidate → Option Json
+candidate_json candidate.Unsaid = None
+candidate_json candidate.Unnamed = Some null
+candidate_json candidate.Nobody = Some (whole 0)
+candidate_json (candidate.Named id) = Some (id_json id)
+
 abbrev pub view_entries : ShownView → List Entry
-view_entries view = (codes "id", Some (whole view.id)) ∷ (codes "members", Some (array (items_of id_json view.members.items))) ∷ []
+view_entries view =
+    (codes "candidate", candidate_json view.candidate)
+    ∷ (codes "id", Some (whole view.id))
+    ∷ (codes "members", Some (array (items_of id_json view.members.items)))
+    ∷ []
 
 abbrev pub view_json : ShownView → Json
 view_json view = object (entries_members (view_entries view))
+
+-- what was heard of the arbiter
+abbrev pub arbiter_entries : Arbiter → List Entry
+arbiter_entries arbiter =
+    (codes "address", Some (json_or_null string arbiter.address))
+    ∷ (codes "age", Some (whole arbiter.age_ms))
+    ∷ (codes "answer", Some (string (answer_word arbiter.answer)))
+    ∷ (codes "no", Some (whole arbiter.no))
+    ∷ (codes "polls", Some (whole arbiter.polls))
+    ∷ (codes "refused", Some (whole arbiter.refused))
+    ∷ (codes "yes", Some (whole arbiter.yes))
+    ∷ []
+
+abbrev pub arbiter_json : Arbiter → Json
+arbiter_json arbiter = object (entries_members (arbiter_entries arbiter))
+
+-- what the host says
+abbrev pub standing_entries : HostStanding → List Entry
+standing_entries standing =
+    (codes "fit", Some (boolean standing.fit))
+    ∷ (codes "pull", Some (boolean standing.pull))
+    ∷ (codes "standby", Some (boolean standing.standby))
+    ∷ (codes "weight", Some (whole standing.weight))
+    ∷ []
+
+abbrev pub standing_json : HostStanding → Json
+standing_json standing = object (entries_members (standing_entries standing))
 
 -- the group: nothing where there is none, null where nothing looks after it
 abbrev pub group_json : Group → Option Json
@@ -81,10 +124,11 @@ group_json Stuck = Some (whole 8)
 group_json Maintenance = Some (whole 9)
 group_json Unattended = Some null
 
--- the keys, with their values; `group`, `held_ms` and `name` are left out where they say nothing
+-- the keys, with their values; `arbiter`, `group`, `held_ms`, `images`, `name` and `standing` are left out where they say nothing
 abbrev pub shown_entries : Shown → List Entry
 shown_entries s =
-    (codes "dropped", Some (whole s.counts.dropped))
+    (codes "arbiter", option_map arbiter_json s.arbiter)
+    ∷ (codes "dropped", Some (whole s.counts.dropped))
     ∷ (codes "end", Some (json_or_null string s.end))
     ∷ (codes "expected", Some (whole s.answer.expected))
     ∷ (codes "format", Some (whole 1))
@@ -92,6 +136,7 @@ shown_entries s =
     ∷ (codes "held_ms", option_map whole s.held_ms)
     ∷ (codes "holds", Some (boolean s.holds))
     ∷ (codes "id", Some (id_json s.id))
+    ∷ (codes "images", option_map whole s.images)
     ∷ (codes "incarnation", Some (json_or_null whole s.incarnation))
     ∷ (codes "late", Some (whole s.counts.late))
     ∷ (codes "loop", Some (whole s.loop_ms))
@@ -106,6 +151,7 @@ shown_entries s =
     ∷ (codes "quorum", Some (whole s.answer.quorum))
     ∷ (codes "refused", Some (whole s.counts.refused))
     ∷ (codes "released", Some (boolean s.answer.released))
+    ∷ (codes "standing", option_map standing_json s.standing)
     ∷ (codes "tick", Some (whole s.tick))
     ∷ (codes "time", Some (number (time_text s.time_ms)))
     ∷ (codes "unwritten", Some (whole s.counts.unwritten))

@@ -7,6 +7,8 @@ use Rattle.qn_model.specs.declared.life.Phase.{Phase}
 use Rattle.qn_model.specs.declared.life.Phase.TheVariants.{Booting, Up, Leaving, Dying, Gone}
 use Rattle.qn_model.specs.Messages.{message_name}
 use Rattle.qn_names.specs.PhaseNames.{phase_name}
+use Rattle.qn_shown.specs.declared.words.DeviceAnswer.{DeviceAnswer}
+use Rattle.qn_shown.specs.declared.words.DeviceAnswer.TheVariants.{Yes, No, Silent}
 use Rattle.qn_shown.specs.declared.words.MailState.{MailState}
 use Rattle.qn_shown.specs.declared.words.MailState.TheVariants.{Holds, Damaged, Failed, Unread}
 
@@ -25,9 +27,18 @@ mail_states =
 abbrev pub phases : List Phase
 phases = Booting ∷ Up ∷ Leaving ∷ Dying ∷ Gone ∷ []
 
+-- the word of what an arbiter answered
+abbrev pub answer_word : DeviceAnswer → List ℕ
+answer_word Yes = codes "yes"
+answer_word No = codes "no"
+answer_word Silent = codes "none"
+
 -- the value of a word
 abbrev pub mail_named : List ℕ → Option MailState
 mail_named word = find (λ mail. bytes_eq word (mail_word mail)) mail_states
 
 abbrev pub phase_named : List ℕ → Option Phase
 phase_named word = find (λ phase. bytes_eq word (phase_name phase)) phases
+
+abbrev pub answer_named : List ℕ → Option DeviceAnswer
+answer_named word = find (λ answer. bytes_eq word (answer_word answer)) (Yes ∷ No ∷ Silent ∷ [])

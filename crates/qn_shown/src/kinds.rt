@@ -1,11 +1,11 @@
 //! The kinds of values of a status file, each read from a value of JSON.
 ghost use Rattle.std.specs.Prelude.{◌≡◌, ◌≤◌};
 ghost use Rattle.json.specs.Value.{value_view};
-ghost use Rattle.qn_shown.specs.Kinds.{host_group_in, id_in, mail_in, period_in, phase_in, text_in, thousandths_in, time_in, time_of, told_group_in, whole_in};
+ghost use Rattle.qn_shown.specs.Kinds.{device_answer_in, host_group_in, id_in, mail_in, period_in, phase_in, text_in, thousandths_in, time_in, time_of, told_group_in, weight_in, whole_in};
 
 use crate::group::Group;
 use crate::short_string::ShortString;
-use crate::words::{MailState, mail_named, phase_named};
+use crate::words::{DeviceAnswer, MailState, answer_named, mail_named, phase_named};
 use json::Value;
 use qn_base::{LONGEST_PERIOD, NodeId, read_decimal};
 use qn_model::Phase;
@@ -37,6 +37,17 @@ pub(crate) fn period(json: &Value<'_>) -> Option<u32>
         return None;
     }
     Some(period as u32)
+}
+
+/// How gladly a node is chosen: at most 254.
+pub(crate) fn weight(json: &Value<'_>) -> Option<u8>
+    ensures { result ≡ weight_in (value_view json.now) }
+{
+    let weight = whole(json)?;
+    if weight > 254 {
+        return None;
+    }
+    Some(weight as u8)
 }
 
 /// A text of at most `most` bytes.
@@ -92,6 +103,13 @@ pub(crate) fn mail(json: &Value<'_>) -> Option<MailState>
     ensures { result ≡ mail_in (value_view json.now) }
 {
     mail_named(json.as_str()?)
+}
+
+/// What an arbiter answered, by its word.
+pub(crate) fn device_answer(json: &Value<'_>) -> Option<DeviceAnswer>
+    ensures { result ≡ device_answer_in (value_view json.now) }
+{
+    answer_named(json.as_str()?)
 }
 
 /// The group that a node told, by its number.

@@ -21,6 +21,8 @@ pub use group::Group;
 pub use laws::{law_shown_read_back, law_told_read_back, law_words_read_back};
 pub use reading::read_shown;
 pub use short_string::ShortString;
-pub use shown::{Counts, Heard, Mailbox, Peer, Shown, ShownView, Told};
+pub use shown::{
+    Arbiter, Candidate, Counts, Heard, HostStanding, Mailbox, Peer, Shown, ShownView, Told,
+};
 pub use telling::{Spelling, get_told, put_told};
-pub use words::MailState;
+pub use words::{DeviceAnswer, MailState};

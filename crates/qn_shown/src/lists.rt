@@ -71,6 +71,7 @@ fn peer(json: &Value<'_>) -> Option<Peer>
         hello_tick: whole_or_null(json, "hello_tick").ok()?,
         id: kinds::id(json.get("id")?)?,
         name: text_if_there(json, "name", 63).ok()?,
+        network_down: whole_if_there(json, "network_down").ok()?,
         refused: whole_if_there(json, "refused").ok()?,
         told: heard(json)?,
     })

@@ -2,17 +2,18 @@
 ghost use Rattle.std.specs.Prelude.{◌≡◌, IfErr, IfOk, None, OnOk, Some, codes, true};
 ghost use Rattle.std.specs.Result.{result_ok};
 ghost use Rattle.std.specs.Option.{IsSomeAnd};
+ghost use Rattle.json.specs.Find.{get};
 ghost use Rattle.json.specs.Json.{document};
 ghost use Rattle.json.specs.Strict.{HasUniqueKeys};
 ghost use Rattle.json.specs.Value.{value_view};
-ghost use Rattle.qn_shown.specs.Reading.{answer_in, counts_in, key_in, mailbox_in, or_null, says_nothing, shown_in, shown_of, view_in};
+ghost use Rattle.qn_shown.specs.Reading.{answer_in, arbiter_in, candidate_of, counts_in, key_in, mailbox_in, optional_in, or_null, says_nothing, shown_in, shown_of, standing_in, view_in};
 
 use crate::fault::ShownFault;
 use crate::keys::{
     group_if_there, id_or_null, text_if_there, text_or_null, truth, value, whole, whole_if_there,
     whole_or_null,
 };
-use crate::shown::{Counts, Mailbox, Shown, ShownView};
+use crate::shown::{Arbiter, Candidate, Counts, HostStanding, Mailbox, Shown, ShownView};
 use crate::{kinds, lists};
 use json::{Error, Scratch, Value};
 use qn_model::Answer;
@@ -47,12 +48,14 @@ fn shown(json: &Value<'_>) -> Result<Shown, ShownFault>
     }
     Ok(Shown {
         answer: answer(json)?,
+        arbiter: arbiter(json)?,
         counts: counts(json)?,
         end: text_or_null(json, "end")?,
         group: group_if_there(json)?,
         held_ms: whole_if_there(json, "held_ms")?,
         holds: truth(json, "holds")?,
         id: kinds::id(value(json, "id")?).ok_or(ShownFault::Key("id"))?,
+        images: whole_if_there(json, "images")?,
         incarnation: whole_or_null(json, "incarnation")?,
         loop_ms: kinds::period(value(json, "loop")?).ok_or(ShownFault::Key("loop"))?,
         mailbox: mailbox(json)?,
@@ -60,6 +63,7 @@ fn shown(json: &Value<'_>) -> Result<Shown, ShownFault>
         peers: lists::peers(value(json, "peers")?).ok_or(ShownFault::Key("peers"))?,
         phase: kinds::phase(value(json, "phase")?).ok_or(ShownFault::Key("phase"))?,
         pid: whole(json, "pid")?,
+        standing: standing(json)?,
         tick: whole(json, "tick")?,
         time_ms: kinds::time(value(json, "time")?).ok_or(ShownFault::Key("time"))?,
         view: view(json)?,
@@ -77,6 +81,59 @@ fn answer(json: &Value<'_>) -> Result<Answer, ShownFault>
         quorum: whole(json, "quorum")?,
         released: truth(json, "released")?,
         votes: whole(json, "votes")?,
+    })
+}
+
+/// What it heard of the arbiter of its quorum device: the key may be absent.
+fn arbiter(json: &Value<'_>) -> Result<Option<Arbiter>, ShownFault>
+    ensures { result_ok result
+        ≡ optional_in arbiter_in (codes "arbiter") (value_view json.now) }
+{
+    match json.get("arbiter") {
+        None => Ok(None),
+        Some(value) => match arbiter_of(value) {
+            Some(arbiter) => Ok(Some(arbiter)),
+            None => Err(ShownFault::Key("arbiter")),
+        },
+    }
+}
+
+fn arbiter_of(json: &Value<'_>) -> Option<Arbiter>
+    ensures { result ≡ arbiter_in (value_view json.now) }
+{
+    Some(Arbiter {
+        address: text_or_null(json, "address").ok()?,
+        age_ms: kinds::whole(json.get("age")?)?,
+        answer: kinds::device_answer(json.get("answer")?)?,
+        no: kinds::whole(json.get("no")?)?,
+        polls: kinds::whole(json.get("polls")?)?,
+        refused: kinds::whole(json.get("refused")?)?,
+        yes: kinds::whole(json.get("yes")?)?,
+    })
+}
+
+/// What its host says of it: the key may be absent.
+fn standing(json: &Value<'_>) -> Result<Option<HostStanding>, ShownFault>
+    ensures { result_ok result
+        ≡ optional_in standing_in (codes "standing") (value_view json.now) }
+{
+    match json.get("standing") {
+        None => Ok(None),
+        Some(value) => match standing_of(value) {
+            Some(standing) => Ok(Some(standing)),
+            None => Err(ShownFault::Key("standing")),
+        },
+    }
+}
+
+fn standing_of(json: &Value<'_>) -> Option<HostStanding>
+    ensures { result ≡ standing_in (value_view json.now) }
+{
+    Some(HostStanding {
+        fit: json.get("fit")?.as_bool()?,
+        pull: json.get("pull")?.as_bool()?,
+        standby: json.get("standby")?.as_bool()?,
+        weight: kinds::weight(json.get("weight")?)?,
     })
 }
 
@@ -121,7 +178,22 @@ fn shown_view(json: &Value<'_>) -> Option<ShownView>
     ensures { result ≡ view_in (value_view json.now) }
 {
     Some(ShownView {
+        candidate: candidate(json)?,
         id: kinds::whole(json.get("id")?)?,
         members: lists::ids(json.get("members")?)?,
     })
+}
+
+/// Whom a view names as the one that may start: the key may be absent.
+fn candidate(json: &Value<'_>) -> Option<Candidate>
+    ensures { result ≡ candidate_of (get (codes "candidate") (value_view json.now)) }
+{
+    match json.get("candidate") {
+        None => Some(Candidate::Unsaid),
+        Some(value) if value.is_null() => Some(Candidate::Unnamed),
+        Some(value) => match kinds::whole(value)? {
+            0 => Some(Candidate::Nobody),
+            _ => Some(Candidate::Named(kinds::id(value)?)),
+        },
+    }
 }

@@ -1,7 +1,7 @@
 //! What a node shows of itself (docs/STATUS.md).
 use crate::group::Group;
 use crate::short_string::ShortString;
-use crate::words::MailState;
+use crate::words::{DeviceAnswer, MailState};
 use arrayvec::ArrayVec;
 use qn_base::NodeId;
 use qn_model::{Answer, Phase};
@@ -11,6 +11,8 @@ use qn_model::{Answer, Phase};
 pub struct Shown {
     /// The count of its votes.
     pub answer: Answer,
+    /// What it heard of the arbiter of its quorum device; None where it polls none.
+    pub arbiter: Option<Arbiter>,
     pub counts: Counts,
     /// The line with which the node ended; None while it runs.
     pub end: Option<ShortString>,
@@ -21,6 +23,8 @@ pub struct Shown {
     /// Whether it holds the resource.
     pub holds: bool,
     pub id: NodeId,
+    /// On how many of three images it runs; None where it has one image, or runs on all three.
+    pub images: Option<u64>,
     /// The number of its boot; None before it is claimed.
     pub incarnation: Option<u64>,
     /// The loop in milliseconds, up to an hour; 0 before the header of the image is read.
@@ -32,6 +36,8 @@ pub struct Shown {
     pub peers: ArrayVec<Peer, 32>,
     pub phase: Phase,
     pub pid: u64,
+    /// What its own host says of it; None where that says nothing.
+    pub standing: Option<HostStanding>,
     /// The time of the last thing that the node was handed, in milliseconds of its host's monotonic clock.
     pub tick: u64,
     /// The wall clock then, in milliseconds since 1970.
@@ -65,11 +71,56 @@ pub struct Mailbox {
     pub tick: Option<u64>,
 }
 
+/// What a node heard of the arbiter that it polls.
+#[derive(Drop)]
+pub struct Arbiter {
+    /// Its address and port; None where it has none.
+    pub address: Option<ShortString>,
+    /// For how many milliseconds no answer came.
+    pub age_ms: u64,
+    pub answer: DeviceAnswer,
+    /// How often it answered no.
+    pub no: u64,
+    /// How often it was polled.
+    pub polls: u64,
+    /// How many packets came from its address that no key opened.
+    pub refused: u64,
+    /// How often it answered yes.
+    pub yes: u64,
+}
+
+/// What the host of a node says of it: its words of whether the node is to run the resource.
+#[derive(Clone, Copy)]
+pub struct HostStanding {
+    /// Whether it can run the resource.
+    pub fit: bool,
+    /// Whether the resource is to be moved to it.
+    pub pull: bool,
+    /// Whether it is not to run the resource.
+    pub standby: bool,
+    /// How gladly it is chosen, from 0 to 254.
+    pub weight: u8,
+}
+
 /// A view: its number, and the nodes that are counted as present.
 #[derive(Drop)]
 pub struct ShownView {
+    pub candidate: Candidate,
     pub id: u64,
     pub members: ArrayVec<NodeId, 32>,
+}
+
+/// Whom a view names as the one that may start.
+#[derive(Clone, Copy)]
+pub enum Candidate {
+    /// The file does not say.
+    Unsaid,
+    /// Nobody in particular: the member of least id may.
+    Unnamed,
+    /// None may.
+    Nobody,
+    /// This node.
+    Named(NodeId),
 }
 
 /// Another configured node.
@@ -80,6 +131,8 @@ pub struct Peer {
     pub id: NodeId,
     /// Its name, of at most 63 bytes; None where the file has none.
     pub name: Option<ShortString>,
+    /// The number of the network over which nothing comes from it any more, while something comes over another one; None where there is none.
+    pub network_down: Option<u64>,
     /// How many packets came from its address that no key opened; None where the file does not say.
     pub refused: Option<u64>,
     /// What it told of itself last.

@@ -1,6 +1,6 @@
 //! The words of a status file that stand for a value.
 ghost use Rattle.std.specs.Prelude.{◌≡◌};
-ghost use Rattle.qn_shown.specs.Words.{mail_named, phase_named};
+ghost use Rattle.qn_shown.specs.Words.{answer_named, mail_named, phase_named};
 
 use qn_model::{Message, Phase};
 
@@ -62,6 +62,43 @@ pub(crate) fn phase_named(word: &str) -> Option<Phase>
         "leaving" => Some(Phase::Leaving),
         "dying" => Some(Phase::Dying),
         "off" => Some(Phase::Gone),
+        _ => None,
+    }
+}
+
+/// What the arbiter of a quorum device answered.
+#[derive(Clone, Copy, PartialEq, Eq)]
+pub enum DeviceAnswer {
+    Yes,
+    No,
+    /// Nothing in this view, or nothing for the timeout of the device.
+    Silent,
+}
+
+impl DeviceAnswer {
+    ghost use Rattle.std.specs.Prelude.{◌≡◌};
+    ghost use Rattle.qn_shown.specs.Words.{answer_word};
+
+    /// The word of the file: `yes`, `no` or `none`.
+    pub fn name(self) -> &'static str
+        ensures { result.now ≡ answer_word self }
+    {
+        match self {
+            DeviceAnswer::Yes => "yes",
+            DeviceAnswer::No => "no",
+            DeviceAnswer::Silent => "none",
+        }
+    }
+}
+
+/// The answer of that word.
+pub(crate) fn answer_named(word: &str) -> Option<DeviceAnswer>
+    ensures { result ≡ answer_named word.now }
+{
+    match word {
+        "yes" => Some(DeviceAnswer::Yes),
+        "no" => Some(DeviceAnswer::No),
+        "none" => Some(DeviceAnswer::Silent),
         _ => None,
     }
 }

@@ -20,6 +20,16 @@ peer_seen at id = line at Information (codes "peer-seen") (number (codes "id") i
 abbrev pub peer_lost : Moment → NodeId → ℕ → EventText
 peer_lost at id silent = line at Warning (codes "peer-lost") (number (codes "id") id.0 ∷ number (codes "silent") silent ∷ [])
 
+-- for three loops nothing came of a node over the network of that number, while something came over the other one
+abbrev pub network_lost : Moment → ℕ → NodeId → EventText
+network_lost at network id =
+    line at Warning (codes "network-lost") (number (codes "network") network ∷ number (codes "id") id.0 ∷ [])
+
+-- something came of a node over a network that was lost to it
+abbrev pub network_back : Moment → ℕ → NodeId → EventText
+network_back at network id =
+    line at Notice (codes "network-back") (number (codes "network") network ∷ number (codes "id") id.0 ∷ [])
+
 -- the arbiter answered, in the view of that number
 abbrev pub device_answered : Moment → Bool → ℕ → EventText
 device_answered at agrees view =
@@ -28,6 +38,13 @@ device_answered at agrees view =
 -- the arbiter answered nothing for so many milliseconds
 abbrev pub device_silent : Moment → ℕ → EventText
 device_silent at age = line at Warning (codes "device-silent") (number (codes "age") age ∷ [])
+
+-- the last call on an image failed, and one was done again
+abbrev pub image_lost : Moment → ℕ → EventText
+image_lost at image = line at Warning (codes "image-lost") (number (codes "image") image ∷ [])
+
+abbrev pub image_back : Moment → ℕ → EventText
+image_back at image = line at Notice (codes "image-back") (number (codes "image") image ∷ [])
 
 -- who wrote a message: a node, or an operator
 abbrev pub sender_words : Option Sender → List Word

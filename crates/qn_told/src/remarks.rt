@@ -1,6 +1,6 @@
 //! What is told besides the events of entries: of nodes that are heard, of the mailbox, of feeds, packets, and the end.
 ghost use Rattle.std.specs.Prelude.{◌≡◌};
-ghost use Rattle.qn_told.specs.Remarks.{device_answered, device_silent, ended, feeds_failed, mail_damaged, mail_failed, mail_told, packets_refused, peer_lost, peer_seen, sender_words};
+ghost use Rattle.qn_told.specs.Remarks.{device_answered, device_silent, ended, feeds_failed, image_back, image_lost, mail_damaged, mail_failed, mail_told, network_back, network_lost, packets_refused, peer_lost, peer_seen, sender_words};
 ghost use Rattle.qn_event.specs.WholeLines.{with_words};
 
 use qn_base::NodeId;
@@ -26,6 +26,26 @@ pub fn peer_lost(at: Moment, id: NodeId, silent: u64) -> EventLine
     line
 }
 
+/// That for three loops nothing came of a node over the network of that number, while something came over the other one.
+pub fn network_lost(at: Moment, network: u64, id: NodeId) -> EventLine
+    ensures { result ≡ network_lost at network id }
+{
+    let mut line = EventLine::new(at, Level::Warning, b"network-lost");
+    line.number(b"network", network);
+    line.number(b"id", u64::from(id.0));
+    line
+}
+
+/// That something came of a node over a network that was lost to it.
+pub fn network_back(at: Moment, network: u64, id: NodeId) -> EventLine
+    ensures { result ≡ network_back at network id }
+{
+    let mut line = EventLine::new(at, Level::Notice, b"network-back");
+    line.number(b"network", network);
+    line.number(b"id", u64::from(id.0));
+    line
+}
+
 /// That the arbiter of the node answered in the view of that number.
 pub fn device_answered(at: Moment, agrees: bool, view: u64) -> EventLine
     ensures { result ≡ device_answered at agrees view }
@@ -42,6 +62,24 @@ pub fn device_silent(at: Moment, age: u64) -> EventLine
 {
     let mut line = EventLine::new(at, Level::Warning, b"device-silent");
     line.number(b"age", age);
+    line
+}
+
+/// That the last call on the image of that number failed.
+pub fn image_lost(at: Moment, image: u64) -> EventLine
+    ensures { result ≡ image_lost at image }
+{
+    let mut line = EventLine::new(at, Level::Warning, b"image-lost");
+    line.number(b"image", image);
+    line
+}
+
+/// That a call on that image was done again.
+pub fn image_back(at: Moment, image: u64) -> EventLine
+    ensures { result ≡ image_back at image }
+{
+    let mut line = EventLine::new(at, Level::Notice, b"image-back");
+    line.number(b"image", image);
     line
 }
 

@@ -6,7 +6,7 @@ pub const VERSION: &str = "0.1.0";
 
 /// The words that may stand before each command of `quorumd`: they are for the machine, and not for the node.
 pub const BEFORE: &str =
-    "[--links CONF] [--key FILE [--key FILE [--key FILE]]] [--open] [--seal-meaning] [--halt FILE] [--status FILE] [--leave-file FILE] [--group FILE] [--blank] [--anew]";
+    "[--links CONF] [--key FILE [--key FILE [--key FILE]]] [--open] [--seal-meaning] [--halt FILE] [--status FILE] [--leave-file FILE] [--standing-file FILE] [--group FILE] [--blank] [--anew]";
 
 /// The commands of `quorumd`, in the order of `quorumd help`.
 pub const QUORUMD: &[Synopsis] = &[

@@ -1,12 +1,12 @@
 -- What follows from a verdict.
-use Rattle.std.proofs.Common.{◌≡◌, ◌≤◌, ◌<◌, ℕ, Bool, true, false, not, ◌&&◌, ◌||◌, ◌==◌, List, [], ◌∷◌, refl, sym, ◌∙◌, ap, arith, if◌then◌else◌, nat_lt, filter, length, All, slice_index_or}
+use Rattle.std.proofs.Common.{◌≡◌, ◌≤◌, ◌<◌, ℕ, Bool, true, false, not, ◌&&◌, ◌||◌, ◌==◌, List, [], ◌∷◌, refl, sym, ◌∙◌, ap, arith, if◌then◌else◌, nat_lt, filter, length, All, slice_index_or, is_some}
 use Rattle.std.specs.List.{list_any, list_all}
 use Rattle.std.proofs.lemmas.Bool.{false≢true, and_parts, not-true, lt-ltb, ltb-false, eqb-false, or_right}
 use Rattle.std.proofs.lemmas.List.Sums.{AllPass-from_list_all}
 use Rattle.qn_shown.specs.declared.shown.Shown.{Shown}
 use Rattle.qn_verdict.specs.declared.verdict.Verdict.{Verdict}
 use Rattle.qn_verdict.specs.declared.verdict.Verdict.TheVariants.{Healthy, Degraded, NoOwner, Unknown}
-use Rattle.qn_verdict.specs.Files.{is_quiet, is_stale}
+use Rattle.qn_verdict.specs.Files.{is_arbiter_well, is_quiet, is_stale}
 use Rattle.qn_verdict.specs.Verdicts.{holders, is_holder, is_owner_unknown, judge, of_live, with_holder, without_holder}
 use Rattle.qn_verdict.specs.Voices.{is_contested, is_held, is_held_twice, is_in_service, is_live, is_peer_well, is_voice_well, is_well, voice_of}
 
@@ -74,7 +74,9 @@ healthy_parts now files healthy = by_live (list_any (is_live now) files) healthy
 
 fresh : (now : ℕ) (files : List Shown) (file : Shown) → is_well now files file ≡ true → is_stale now file ≡ false
 fresh now files file well =
-    let four = and_parts (is_live now file && is_voice_well (voice_of file) && is_in_service file.phase && is_quiet file.mailbox.state) (list_all (is_peer_well now files file) file.peers.items) well in
+    let six = and_parts (is_live now file && is_voice_well (voice_of file) && is_in_service file.phase && is_quiet file.mailbox.state && not (is_some file.images) && is_arbiter_well file) (list_all (is_peer_well now files file) file.peers.items) well in
+    let five = and_parts (is_live now file && is_voice_well (voice_of file) && is_in_service file.phase && is_quiet file.mailbox.state && not (is_some file.images)) (is_arbiter_well file) six.0 in
+    let four = and_parts (is_live now file && is_voice_well (voice_of file) && is_in_service file.phase && is_quiet file.mailbox.state) (not (is_some file.images)) five.0 in
     let three = and_parts (is_live now file && is_voice_well (voice_of file) && is_in_service file.phase) (is_quiet file.mailbox.state) four.0 in
     let two = and_parts (is_live now file && is_voice_well (voice_of file)) (is_in_service file.phase) three.0 in
     let live = and_parts (is_live now file) (is_voice_well (voice_of file)) two.0 in

@@ -1,9 +1,13 @@
 -- What the status file of one node says, and when it says nothing of now. This project's profile.
-use Rattle.std.specs.Prelude.{ℕ, Bool, true, false, ◌+◌, ◌-◌, ◌*◌, ◌==◌, ◌||◌, List, [], Option, Some, None, is_some, if◌then◌else◌, nat_lt}
+use Rattle.std.specs.Prelude.{ℕ, Bool, true, false, ◌+◌, ◌-◌, ◌*◌, ◌==◌, ◌||◌, List, [], Option, Some, None, is_some, if◌then◌else◌, nat_le, nat_lt}
+use Rattle.std.specs.Option.{option_map_or}
 use Rattle.qn_base.specs.declared.ids.NodeId.{NodeId}
 use Rattle.qn_model.specs.declared.disk.Message.TheVariants as message
+use Rattle.qn_shown.specs.declared.shown.Arbiter.{Arbiter}
 use Rattle.qn_shown.specs.declared.shown.Shown.{Shown}
 use Rattle.qn_shown.specs.declared.shown.ShownView.{ShownView}
+use Rattle.qn_shown.specs.declared.words.DeviceAnswer.{DeviceAnswer}
+use Rattle.qn_shown.specs.declared.words.DeviceAnswer.TheVariants.{Yes, No, Silent}
 use Rattle.qn_shown.specs.declared.words.MailState.{MailState}
 use Rattle.qn_shown.specs.declared.words.MailState.TheVariants.{Holds, Damaged, Failed, Unread}
 
@@ -31,3 +35,17 @@ is_quiet (Holds message.Crashdump) = false
 is_quiet Damaged = false
 is_quiet Failed = false
 is_quiet Unread = true
+
+-- an answer of the arbiter counts
+abbrev pub is_answer : DeviceAnswer → Bool
+is_answer Yes = true
+is_answer No = true
+is_answer Silent = false
+
+-- an answer of the arbiter counts, or the last one is at most three loops old
+abbrev pub is_answered : Shown → Arbiter → Bool
+is_answered file arbiter = is_answer arbiter.answer || nat_le arbiter.age_ms (3 * loop_of file)
+
+-- the arbiter of the node, where it polls one, answers
+abbrev pub is_arbiter_well : Shown → Bool
+is_arbiter_well file = option_map_or (is_answered file) file.arbiter true

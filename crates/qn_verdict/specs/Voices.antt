@@ -16,7 +16,7 @@ use Rattle.qn_verdict.specs.declared.voice.Pair.TheVariants.{Two, TwoAtATime}
 use Rattle.qn_verdict.specs.declared.voice.Voice.{Voice}
 use Rattle.qn_verdict.specs.declared.voice.Wanted.{Wanted}
 use Rattle.qn_verdict.specs.declared.voice.Wanted.TheVariants.{Holder, OtherHolder, LongerHolder}
-use Rattle.qn_verdict.specs.Files.{is_quiet, is_stale, loop_of, members_of}
+use Rattle.qn_verdict.specs.Files.{is_arbiter_well, is_quiet, is_stale, loop_of, members_of}
 
 abbrev pub is_live : ℕ → Shown → Bool
 is_live now file = not (is_stale now file)
@@ -145,10 +145,10 @@ is_voice_well voice = voice.quorate && not voice.leaving && (not voice.holds || 
 abbrev pub is_heard : ℕ → Shown → Peer → Bool
 is_heard now file peer = option_map_or (is_fresh now file) peer.hello_tick false
 
--- the node sees the peer, and nothing is wrong by the peer's word
+-- the node sees the peer over each network, and nothing is wrong by the peer's word
 abbrev pub is_peer_well : ℕ → List Shown → Shown → Peer → Bool
 is_peer_well now files file peer =
-    is_heard now file peer && (is_here now files peer.id || option_map_or is_voice_well (told_voice now files file peer) false)
+    is_heard now file peer && not (is_some peer.network_down) && (is_here now files peer.id || option_map_or is_voice_well (told_voice now files file peer) false)
 
 abbrev pub is_in_service : Phase → Bool
 is_in_service Booting = true
@@ -157,8 +157,9 @@ is_in_service Leaving = true
 is_in_service Dying = false
 is_in_service Gone = false
 
--- nothing is wrong with the node, and with those that it knows
+-- nothing is wrong with the node, its images and its arbiter, and with the nodes that it knows
 abbrev pub is_well : ℕ → List Shown → Shown → Bool
 is_well now files file =
     is_live now file && is_voice_well (voice_of file) && is_in_service file.phase && is_quiet file.mailbox.state
+    && not (is_some file.images) && is_arbiter_well file
     && list_all (is_peer_well now files file) file.peers.items

@@ -1,10 +1,10 @@
 //! What the status file of one node says of now, of its view and of its mailbox.
 ghost use Rattle.std.specs.Prelude.{◌≡◌, ◌*◌, ◌≤◌};
-ghost use Rattle.qn_verdict.specs.Files.{is_quiet, is_stale, loop_of, members_of};
+ghost use Rattle.qn_verdict.specs.Files.{is_answer, is_answered, is_arbiter_well, is_quiet, is_stale, loop_of, members_of};
 
 use qn_base::NodeId;
 use qn_model::Message;
-use qn_shown::{MailState, Shown};
+use qn_shown::{Arbiter, DeviceAnswer, MailState, Shown};
 
 /// Whether the file says nothing of this moment, in milliseconds of the host's monotonic clock: its node has ended, its tick is of
 /// another boot of the host, or it is older than three loops and a second (docs/STATUS.md).
@@ -52,5 +52,32 @@ pub fn is_quiet(mail: MailState) -> bool
         MailState::Holds(Message::Reset | Message::Off | Message::Exit | Message::Crashdump)
         | MailState::Damaged
         | MailState::Failed => false,
+    }
+}
+
+/// Whether an answer of the arbiter counts.
+fn is_answer(answer: DeviceAnswer) -> bool
+    ensures { result ≡ is_answer answer }
+{
+    match answer {
+        DeviceAnswer::Yes | DeviceAnswer::No => true,
+        DeviceAnswer::Silent => false,
+    }
+}
+
+/// Whether an answer of the arbiter of that node counts, or the last one is at most three loops old.
+pub fn is_answered(file: &Shown, arbiter: &Arbiter) -> bool
+    ensures { result ≡ is_answered file.now arbiter.now }
+{
+    is_answer(arbiter.answer) || arbiter.age_ms <= miss_time(file)
+}
+
+/// Whether the arbiter of the node answers, where it polls one.
+pub(crate) fn is_arbiter_well(file: &Shown) -> bool
+    ensures { result ≡ is_arbiter_well file.now }
+{
+    match &file.arbiter {
+        Some(arbiter) => is_answered(file, arbiter),
+        None => true,
     }
 }

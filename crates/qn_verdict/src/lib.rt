@@ -9,7 +9,7 @@ mod laws;
 mod verdict;
 mod voice;
 
-pub use file::{is_quiet, is_stale, members, miss_time};
+pub use file::{is_answered, is_quiet, is_stale, members, miss_time};
 pub use laws::law_verdict;
 pub use verdict::{Verdict, judge};
 pub use voice::{

@@ -4,7 +4,7 @@ ghost use Rattle.std.specs.List.{list_all, list_any};
 ghost use Rattle.qn_verdict.specs.Files.{members_of};
 ghost use Rattle.qn_verdict.specs.Voices.{are_all_told, are_paired, has_partner, has_voice, is_contested, is_fresh, is_heard, is_held, is_held_twice, is_here, is_in_service, is_leaving, is_live, is_longer, is_paired_in, is_partner_told, is_peer_well, is_said, is_said_in, is_teller, is_told, is_voice_well, is_wanted, is_well, partner_of, told_voice, voice_of};
 
-use crate::file::{is_quiet, is_stale, loop_of, members, miss_time};
+use crate::file::{is_arbiter_well, is_quiet, is_stale, loop_of, members, miss_time};
 use qn_base::NodeId;
 use qn_model::Phase;
 use qn_shown::{Group, Heard, Peer, Shown};
@@ -316,11 +316,12 @@ pub fn is_heard(now: u64, file: &Shown, peer: &Peer) -> bool
     }
 }
 
-/// Whether the node sees the peer, and nothing is wrong by the peer's word.
+/// Whether the node sees the peer over each network, and nothing is wrong by the peer's word.
 fn is_peer_well(now: u64, files: &[Shown], file: &Shown, peer: &Peer) -> bool
     ensures { result ≡ is_peer_well now files.now file.now peer.now }
 {
     is_heard(now, file, peer)
+        && peer.network_down.is_none()
         && (is_here(now, files, peer.id)
             || match told_voice(now, files, file, peer) {
                 Some(voice) => is_voice_well(voice),
@@ -328,7 +329,7 @@ fn is_peer_well(now: u64, files: &[Shown], file: &Shown, peer: &Peer) -> bool
             })
 }
 
-/// Whether nothing is wrong with the node, and with those that it knows.
+/// Whether nothing is wrong with the node, its images and its arbiter, and with the nodes that it knows.
 pub(crate) fn is_well(now: u64, files: &[Shown], file: &Shown) -> bool
     ensures { result ≡ is_well now files.now file.now }
 {
@@ -336,6 +337,8 @@ pub(crate) fn is_well(now: u64, files: &[Shown], file: &Shown) -> bool
         && is_voice_well(voice_of(file))
         && is_in_service(file.phase)
         && is_quiet(file.mailbox.state)
+        && file.images.is_none()
+        && is_arbiter_well(file)
         && are_peers_well(now, files, file)
 }
 

@@ -1,8 +1,9 @@
-//! The program `quorumctl`: what an operator wants to know beside `quorumd`. It reads, and changes nothing.
+//! The program `quorumctl`: what an operator wants to know beside `quorumd`, and what he says to the node of this host. It writes those words alone.
 //!
 //! Promises: nothing. What it says stands on `qn_control` and `qn_verdict`; a text is judged by `settings_of_text`, as `quorumd` judges it.
 #![tactic(auto)]
 
+mod asking;
 mod clocks;
 mod group;
 mod images;
@@ -16,9 +17,11 @@ mod texts;
 mod trouble;
 mod watchdog;
 
+use asking::ask;
 use group::group;
 use images::{check, list, wait};
 use journals::history;
+use qn_control::Request;
 use qn_usage::{USAGE, has_word, help_text, refusal_of, value_of, version_text, words_given};
 use qn_verdict::Verdict;
 use status::status;
@@ -97,6 +100,11 @@ fn run<
         "status" => Ok(status(rt, words)),
         "history" => history(rt, words),
         "group" => group(rt),
+        "standby" => ask(rt, "standby", Request::Standby, options),
+        "unstandby" => ask(rt, "unstandby", Request::Unstandby, options),
+        "fit" => ask(rt, "fit", Request::Fit, options),
+        "move" if has_word(options, "--off") => ask(rt, "move", Request::CallOff, options),
+        "move" => ask(rt, "move", Request::Move, options),
         _ => Ok(USAGE),
     }
 }

@@ -22,8 +22,8 @@ const WATCH: u64 = 1000;
 /// What a terminal does before a text of `--watch`: the cursor to the first place, and all behind it is erased (ECMA-48, CUP and ED).
 const ERASE: &str = "\u{1b}[H\u{1b}[J";
 
-/// Where systemd's unit has each node of this host write its status file, as `node-ID.json`.
-const HERE: &str = "/run/quorumd";
+/// Where systemd's unit has each node of this host write its status file, as `node-ID.json`, and look at its words, as `standing-ID`.
+pub const HERE: &str = "/run/quorumd";
 
 /// The form of the text.
 #[derive(Clone, Copy)]
@@ -35,8 +35,8 @@ enum Form {
 
 /// The cluster as its status files show it, and the image where one is looked at.
 #[derive(Drop)]
-struct Seen {
-    cluster: ClusterStatus,
+pub struct Seen {
+    pub cluster: ClusterStatus,
     image: Option<ImageSeen>,
 }
 
@@ -108,8 +108,8 @@ fn watch<
     Ok(Verdict::Unknown)
 }
 
-/// Reads the files and the image. The clocks are read after them, so that no file is of a later moment.
-fn see<
+/// Reads the files that the words name, without any those of this host, and the image. The clocks are read after them, so that no file is of a later moment.
+pub fn see<
     R: Files<File = File> + Net<Stream = TcpStream> + Clock + Eprint + AllocGlobal + Clone + Drop,
 >(rt: &R, words: &[String]) -> Result<Seen, Trouble> {
     let mut cluster = ClusterStatus {

@@ -44,6 +44,26 @@ pub const QUORUMCTL: &[Synopsis] = &[
         does: "what the journals of the nodes tell, in the order of time",
     },
     Synopsis {
+        line: "standby [--node NODE] [--yes]",
+        reads: "",
+        does: "the node of this host never holds the resource, from now on and after each boot",
+    },
+    Synopsis {
+        line: "unstandby [--node NODE]",
+        reads: "",
+        does: "it may hold it again",
+    },
+    Synopsis {
+        line: "fit [--node NODE]",
+        reads: "",
+        does: "it may hold it again, after a start that failed for good",
+    },
+    Synopsis {
+        line: "move [--node NODE] [--yes|--off]",
+        reads: "",
+        does: "the resource moves to the node of this host; with --off it is asked for no more",
+    },
+    Synopsis {
         line: "group",
         reads: "EVENTS",
         does: "what is to be done to the resources of a host, event by event, for its supervisor",

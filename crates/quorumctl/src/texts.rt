@@ -8,10 +8,11 @@ use qn_base::{LONGEST_PERIOD, read_decimal};
 use qn_conf::read_tree;
 use qn_control::{
     TextConcern, concerns_of, device_concerns_of, differences_of, has_byte_order_mark,
-    least_msgwait, longest_take_over, pairs_of, settings_text, slowest_disk, text_concerns_of,
-    unbounded_on, wrong_lines,
+    least_msgwait, lines_of_key, longest_take_over, networks_told, node_concerns_of, pairs_of,
+    settings_text, slowest_disk, text_concerns_of, unbounded_on, wrong_lines,
 };
 use qn_exchange::ShortFeedDelay;
+use qn_links::{NodeSection, StandingFault, sections_of, standing_of};
 use qn_model::{Settings, Timing};
 use qn_settings::{TextFault, settings_of_text};
 use qn_usage::value_of;
@@ -49,19 +50,55 @@ fn say_settings(
     let tree = read_tree(alloc, text).map_err(|_| Trouble::NoMemory)?;
     let pairs = pairs_of(alloc, &tree)?;
     let pairs = pairs.as_slice();
+    let sections = sections_of(alloc, &tree)?;
+    let sections = sections.as_slice();
+    if let Some(fault) = standing_fault(settings, sections) {
+        return say_standing_fault(rt, text, fault);
+    }
     let lines = settings_text(alloc, settings, pairs)?;
     say(rt, lines.as_str())?;
+    let networks = networks_told(alloc, settings, &tree)?;
+    say(rt, networks.lines.as_str())?;
     let concerns = concerns_of(alloc, settings, pairs)?;
+    let of_nodes = node_concerns_of(alloc, settings, sections)?;
     let of_device = device_concerns_of(alloc, settings, &tree, pairs)?;
     let differences = differences_of(alloc, settings, pairs)?;
     let of_text = text_concerns_of(alloc, text, &tree, pairs)?;
     say_warnings(rt, concerns.as_slice())?;
+    say_warnings(rt, of_nodes.as_slice())?;
     say_warnings(rt, of_device.as_slice())?;
     say_warnings(rt, differences.as_slice())?;
     say_warnings(rt, of_text.as_slice())?;
-    let is_plain = concerns.is_empty() && of_device.is_empty();
+    let is_plain = concerns.is_empty() && of_nodes.is_empty() && of_device.is_empty();
+    let is_plain = is_plain && !networks.is_warning;
     let is_alike = differences.is_empty() && of_text.is_empty();
     Ok(if is_plain && is_alike { 0 } else { RISKY })
+}
+
+/// The first fault of what the sections of the nodes say of whether they may hold.
+fn standing_fault(settings: &Settings, sections: &[NodeSection<'_>]) -> Option<StandingFault> {
+    for node in settings.nodes.as_slice() {
+        if let Err(fault) = standing_of(sections, node.id) {
+            return Some(fault);
+        }
+    }
+    None
+}
+
+/// Says that no node starts with a text, and the lines that this speaks of.
+fn say_standing_fault(
+    rt: &(impl Print + AllocGlobal),
+    text: &[u8],
+    fault: StandingFault,
+) -> Result<u8, Trouble> {
+    let key = match fault {
+        StandingFault::Standby => "standby",
+        StandingFault::LocationScore => "location_score",
+    };
+    let lines = lines_of_key(rt.alloc(), text, key)?;
+    let line = format!(in rt.alloc(); "fault: {fault}\n{lines}")?;
+    say(rt, line.as_str())?;
+    Ok(BAD_CONF)
 }
 
 /// A line for each warning.

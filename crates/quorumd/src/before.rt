@@ -1,5 +1,5 @@
 //! The words before the command: `--links CONF`, `--key FILE` up to three times, `--open`, `--seal-meaning`, `--halt FILE`, `--status FILE`,
-//! `--leave-file FILE`, `--group FILE`, `--blank` and `--anew`, in any order.
+//! `--leave-file FILE`, `--standing-file FILE`, `--group FILE`, `--blank` and `--anew`, in any order.
 use crate::edge::ARBITER;
 use std::fmt;
 use std::fmt::Display;
@@ -8,7 +8,7 @@ use std::fmt::Display;
 pub const MOST_KEYS: usize = 3;
 
 /// The most words that may stand before the command: two for each but `--open`, `--seal-meaning`, `--blank` and `--anew`.
-const MOST_WORDS: u32 = 20;
+const MOST_WORDS: u32 = 22;
 
 /// What the words before the command say.
 #[derive(Clone, Copy, Default)]
@@ -20,6 +20,7 @@ pub struct Before<'words> {
     pub halt: Option<&'words str>,
     pub status: Option<&'words str>,
     pub leave: Option<&'words str>,
+    pub standing: Option<&'words str>,
     pub group: Option<&'words str>,
     pub is_blank: bool,
     pub is_anew: bool,
@@ -39,8 +40,8 @@ pub enum WordFault<'words> {
     MeaningWithoutText,
     StatusWithoutNode,
     StatusPath,
-    LeaveWithoutNode,
-    GroupWithoutNode,
+    /// That word, which says something of a node.
+    WithoutNode(&'static str),
     BlankWithoutCreate,
     AnewWithoutCreate,
 }
@@ -63,8 +64,7 @@ impl<'words> Display for WordFault<'words> {
                 f.write_str("--status stands before a node or an arbiter alone")
             }
             WordFault::StatusPath => f.write_str("--status: a path has 1 to 4090 bytes"),
-            WordFault::LeaveWithoutNode => f.write_str("--leave-file stands before a node alone"),
-            WordFault::GroupWithoutNode => f.write_str("--group stands before a node alone"),
+            WordFault::WithoutNode(word) => write!(f, "{word} stands before a node alone"),
             WordFault::BlankWithoutCreate => f.write_str("--blank stands before create alone"),
             WordFault::AnewWithoutCreate => f.write_str("--anew stands before create alone"),
         }
@@ -81,6 +81,7 @@ enum Word {
     Halt,
     Status,
     LeaveFile,
+    StandingFile,
     Group,
     Blank,
     Anew,
@@ -97,6 +98,7 @@ impl Word {
             "--halt" => Some(Word::Halt),
             "--status" => Some(Word::Status),
             "--leave-file" => Some(Word::LeaveFile),
+            "--standing-file" => Some(Word::StandingFile),
             "--group" => Some(Word::Group),
             "--blank" => Some(Word::Blank),
             "--anew" => Some(Word::Anew),
@@ -135,8 +137,13 @@ impl<'words> Before<'words> {
             Word::SealMeaning => return say_once(&mut self.seals_meaning, text),
             Word::Blank => return say_once(&mut self.is_blank, text),
             Word::Anew => return say_once(&mut self.is_anew, text),
-            Word::Links | Word::Key | Word::Halt | Word::Status | Word::LeaveFile | Word::Group =>
-                {}
+            Word::Links
+            | Word::Key
+            | Word::Halt
+            | Word::Status
+            | Word::LeaveFile
+            | Word::StandingFile
+            | Word::Group => {}
         }
         let value = words.get(self.count).map(String::as_str);
         let Some(value) = value.filter(|value| Word::of(value).is_none()) else {
@@ -148,6 +155,7 @@ impl<'words> Before<'words> {
             Word::Halt => put_once(&mut self.halt, text, value),
             Word::Status => put_once(&mut self.status, text, value),
             Word::LeaveFile => put_once(&mut self.leave, text, value),
+            Word::StandingFile => put_once(&mut self.standing, text, value),
             Word::Group => put_once(&mut self.group, text, value),
             Word::Key => self.key(value),
             Word::Open | Word::SealMeaning | Word::Blank | Word::Anew => Ok(()),
@@ -164,19 +172,29 @@ impl<'words> Before<'words> {
         }
     }
 
+    /// The first of the words that stand before a node alone.
+    fn word_of_node(&self) -> Option<&'static str> {
+        if self.leave.is_some() {
+            Some("--leave-file")
+        } else if self.standing.is_some() {
+            Some("--standing-file")
+        } else {
+            self.group.map(|_| "--group")
+        }
+    }
+
     /// The same, where they go together and with the command.
     fn judged(self, command: &str) -> Result<Before<'words>, WordFault<'words>> {
         if self.status.is_some() && !is_running(command) {
             return Err(WordFault::StatusWithoutNode);
         }
-        if self.leave.is_some() && !is_node(command) {
-            return Err(WordFault::LeaveWithoutNode);
+        if let Some(word) = self.word_of_node()
+            && !is_node(command)
+        {
+            return Err(WordFault::WithoutNode(word));
         }
         if self.seals_meaning && !is_running(command) {
             return Err(WordFault::MeaningWithoutNode);
-        }
-        if self.group.is_some() && !is_node(command) {
-            return Err(WordFault::GroupWithoutNode);
         }
         if self.is_blank && command != "create" {
             return Err(WordFault::BlankWithoutCreate);
@@ -205,7 +223,7 @@ pub fn is_running(command: &str) -> bool {
 }
 
 /// Whether a command runs a node.
-fn is_node(command: &str) -> bool {
+pub fn is_node(command: &str) -> bool {
     matches!(command, "node" | "node3" | "node-logged" | "node3-logged")
 }
 

@@ -1,15 +1,16 @@
 //! Reads the files that the words before the command name: the addresses and the digests of a settings text, and keys. Of the first that
 //! is wrong a line on standard error says what is; nothing was opened then but these files.
-use crate::PROGRAM;
-use crate::before::{Before, MOST_KEYS, is_running};
+use crate::before::{Before, MOST_KEYS, is_node, is_running};
 use crate::same_text::Text;
+use crate::{PROGRAM, id_in};
+use qn_base::NodeId;
 use qn_commands::Fault;
 use qn_conf::{MOST_TEXT_BYTES, Tree, read_tree};
 use qn_links::{
-    ArbiterFault, ArbiterPlace, Links, Meaning, NodeSection, arbiter_of, device_of, links_of,
-    meaning_of, name_of, sections_of,
+    ArbiterFault, ArbiterPlace, Links, Meaning, NodeSection, arbiter_of, device_of, meaning_of,
+    name_of, networks_of, sections_of, standing_of,
 };
-use qn_machine::{ArbiterAt, Edge, Guard, Overwrites};
+use qn_machine::{Edge, Guard, Overwrites};
 use qn_model::Settings;
 use qn_seal::{Key, Keys, Texts, text_of};
 use qn_settings::settings;
@@ -35,11 +36,12 @@ pub struct NamedText {
     pub names: Vec<Option<String>>,
 }
 
-/// What of the outside these words say before that command, and the settings text that was read; or the status to end with.
+/// What of the outside these words say before a command, of which the words are these, and the settings text that was read; or the status to
+/// end with.
 pub fn edge_of<'words, R: Files<File = File> + AllocGlobal + Eprint>(
     rt: &R,
     before: &Before<'words>,
-    command: &str,
+    words: &[String],
 ) -> Result<(Edge, Option<NamedText>), u8> {
     let mut edge = Edge::local();
     if before.is_anew {
@@ -53,6 +55,9 @@ pub fn edge_of<'words, R: Files<File = File> + AllocGlobal + Eprint>(
     if let Some(path) = before.leave {
         edge.leave = Some(String::from_str(rt.alloc(), path).map_err(|_| NO_MEMORY)?);
     }
+    if let Some(path) = before.standing {
+        edge.standing_file = Some(String::from_str(rt.alloc(), path).map_err(|_| NO_MEMORY)?);
+    }
     edge.guard = match keys_of(rt, &before.keys)? {
         Some(keys) => Guard::Sealed(keys),
         None if before.is_open => Guard::ClosedNetwork,
@@ -63,7 +68,7 @@ pub fn edge_of<'words, R: Files<File = File> + AllocGlobal + Eprint>(
             let bytes = read_file(rt, path, MOST_TEXT_BYTES as u64 + 1)?;
             let path = String::from_str(rt.alloc(), path).map_err(|_| NO_MEMORY)?;
             let text = Text { path, bytes };
-            let names = take_text(rt, before, &text, command, &mut edge)?;
+            let names = take_text(rt, before, &text, words, &mut edge)?;
             Some(NamedText { text, names })
         }
         None => None,
@@ -71,24 +76,26 @@ pub fn edge_of<'words, R: Files<File = File> + AllocGlobal + Eprint>(
     Ok((edge, text))
 }
 
-/// Takes what a settings text says: where the nodes and their arbiter are, and what stands for the text in a tag; and gives how the
-/// nodes are called.
+/// Takes what a settings text says: where the nodes and their arbiter are, what stands for the text in a tag, and whether the node of these
+/// words may hold; and gives how the nodes are called.
 fn take_text<R: AllocGlobal + Eprint>(
     rt: &R,
     before: &Before<'_>,
     text: &Text,
-    command: &str,
+    words: &[String],
     edge: &mut Edge,
 ) -> Result<Vec<Option<String>>, u8> {
+    let command = words.first().map_or("", String::as_str);
     let (path, bytes) = (text.path.as_str(), text.bytes.as_slice());
     let tree = read_whole(rt, path, bytes)?;
     let settings = read_settings(rt, path, &tree)?;
     let sections = sections_of(rt.alloc(), &tree).map_err(|_| NO_MEMORY)?;
-    let links = read_links(rt, path, sections.as_slice(), &settings)?;
-    let arbiter = arbiter_of(device_of(&tree), &links);
-    edge.texts = texts_of(before, bytes, &settings, &links, arbiter.ok());
+    let networks = networks_of(sections.as_slice(), settings.nodes.as_slice());
+    let networks = networks.map_err(|fault| refuse(rt, path, fault))?;
+    let arbiter = arbiter_of(device_of(&tree), &networks.first);
+    edge.texts = texts_of(before, bytes, &settings, &networks.first, arbiter.ok());
     edge.arbiter = match arbiter {
-        Ok(ArbiterPlace { address, port }) => Some(ArbiterAt { address, port }),
+        Ok(place) => Some(place),
         Err(fault) if command == ARBITER => return Err(refuse(rt, path, fault)),
         Err(fault) => {
             if is_running(command) && settings.device.is_some() {
@@ -97,7 +104,10 @@ fn take_text<R: AllocGlobal + Eprint>(
             None
         }
     };
-    edge.addresses = Some(links);
+    edge.networks = Some(networks);
+    if is_node(command) {
+        take_standing(rt, path, sections.as_slice(), NodeId(id_in(words)), edge)?;
+    }
     read_names(rt, path, sections.as_slice(), &settings)
 }
 
@@ -252,17 +262,18 @@ fn read_settings<R: AllocGlobal + Eprint>(
     settings(tree).map_err(|fault| refuse_text(rt, path, Fault::BadSettings(fault)))
 }
 
-/// The addresses that a settings text of these settings gives.
-fn read_links<R: AllocGlobal + Eprint>(
-    rt: &R,
+/// Takes whether that node may hold, and how gladly it is to, by its section.
+fn take_standing<E: Eprint>(
+    errors: &E,
     path: &str,
     sections: &[NodeSection<'_>],
-    settings: &Settings,
-) -> Result<Links, u8> {
-    if sections.iter().any(|section| section.has_second) {
-        let _ = eprintln!(rt; "{PROGRAM}: ring1_addr is not used");
-    }
-    links_of(sections, settings.nodes.as_slice()).map_err(|fault| refuse(rt, path, fault))
+    id: NodeId,
+    edge: &mut Edge,
+) -> Result<(), u8> {
+    let said = standing_of(sections, id).map_err(|fault| refuse(errors, path, fault))?;
+    edge.standing.standby = said.is_standby;
+    edge.standing.weight = said.score;
+    Ok(())
 }
 
 /// The names of the nodes by rank. Of a name that cannot be shown a line says why.

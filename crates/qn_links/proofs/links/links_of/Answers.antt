@@ -16,6 +16,6 @@ pub loop-rank-preserved : goal.loop-rank-preserved
 loop-rank-preserved c =
     let fits : c.loop-rank.rank < length c.loop-rank.links = grind (arith, c.loop-rank-test.true, c.loop-rank.invariant.0) in (
       length-set c.loop-rank.links c.loop-rank.rank _ ∙ c.loop-rank.invariant.0,
-      links_more c.args.sections.now c.args.nodes.now c.loop-rank.links c.loop-rank.rank c.in_ok-address.address fits
+      links_more c.args.ring c.args.sections.now c.args.nodes.now c.loop-rank.links c.loop-rank.rank c.in_ok-address.address fits
           c.loop-rank.invariant.1 c.in_ok-address.ensures.has c.in_ok-apart.ensures.apart,
     )

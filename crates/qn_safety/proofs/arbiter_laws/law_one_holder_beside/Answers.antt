@@ -2,4 +2,4 @@ use Rattle.qn_safety.proofs.ArbiterHolding.{one_holder_beside}
 use Rattle.qn_safety.proofs.arbiter_laws.law_one_holder_beside.Goals as goal
 
 pub returns : goal.returns
-returns c = one_holder_beside c.law_no_two_holders.ensures.reported
+returns c = one_holder_beside

@@ -1,0 +1,12 @@
+//! Running nodes beside a running arbiter.
+//!
+//! `specs/Beside` says what may happen to them, call by call and byte by byte: what may happen to running nodes that share one image, each of
+//! which polls, and to an arbiter, of which one runs at a time. Promises: at most one resource runs at any moment, whatever the arbiter does
+//! (`law_one_owner_beside`); and no two running nodes with disjoint present views are both quorate (`law_one_lease_runs`). Each such run
+//! is a run of the world beside an arbiter: each thing that happens is one event of its nodes at most, and a poll, an answer or a boot
+//! of the arbiter at most. It is of one image alone.
+#![tactic(auto)]
+
+mod laws;
+
+pub use laws::{law_one_lease_runs, law_one_owner_beside};

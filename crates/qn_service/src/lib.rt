@@ -1,0 +1,16 @@
+//! What running nodes do for their service: which views are made and taken, and which machines are reset.
+//!
+//! `specs/Leading` says of one look of a view maker whose view it gives and whom that leaves out, `specs/Looks` which looks there
+//! were in a joined run, and `specs/Unheard` which machines are reset. Promises: a look makes a view or takes one that its leader
+//! announced (`law_made_or_taken`); who is the least member of such a view made it, where not all know names
+//! (`law_least_members_made_it`); a view of a leader stays while its company does (`law_views_stay`); and who is left out of a view
+//! was not in company of its maker, and no member of which a Hello came was left out before three loops (`law_left_out`). So a
+//! machine is reset only where the maker of the view left it out (`law_resets_the_unheard`), and none is while each leader finds
+//! all others in company (`law_nobody_is_reset`). The rules are met by a run in which a reset is asked for (`law_reset_is_met`).
+#![tactic(auto)]
+
+mod laws;
+mod looks;
+
+pub use laws::{law_nobody_is_reset, law_reset_is_met, law_resets_the_unheard};
+pub use looks::{law_least_members_made_it, law_left_out, law_made_or_taken, law_views_stay};

@@ -1,0 +1,54 @@
+//! The laws of one look of a view maker.
+ghost use Rattle.std.specs.Prelude.{◌≡◌, ◌⊎◌, ◌<◌, ℕ, None, Some, false, length, true};
+ghost use Rattle.qn_base.specs.declared.ids.View.{View};
+ghost use Rattle.qn_base.specs.Members.{is_member};
+ghost use Rattle.qn_member.specs.Maker.{is_present, least_of};
+ghost use Rattle.qn_member.specs.Naming.{NamingMaker};
+ghost use Rattle.qn_member.specs.NamingViews.{after_look, is_named_anew, looked_by_name, view_found, view_of};
+ghost use Rattle.qn_service.specs.Leading.{LeavesOut, MakesView, TakesView, company_then, leader_then, names_then};
+
+/// Law: a view that a look gives was made by it, and its node leads; or it is the view that its leader announced last, and has both
+/// of them.
+pub fn law_made_or_taken()
+    ensures { (m : NamingMaker) (tick : ℕ) (view : View)
+        → view_found tick m ≡ Some view
+        → MakesView tick m view ⊎ TakesView tick m view }
+{}
+
+/// Law: who is the least member of a view that a look gives made that view itself, where not all that it sees know names. Where all
+/// do, a view that names its leader was made by that.
+pub fn law_least_members_made_it()
+    ensures { (m : NamingMaker) (tick : ℕ) (view : View)
+        → m.maker.me < length m.maker.nodes
+        → names_then tick m ≡ false
+        → view_found tick m ≡ Some view
+        → least_of m.maker view.members ≡ Some m.maker.me
+        → MakesView tick m view }
+{
+    qn_member::law_leads();
+}
+
+/// Law: where a look of a node that leads finds its present members in company, and would name them as before, it gives no view;
+/// and after a look that gives none the present view is what it was.
+pub fn law_views_stay()
+    ensures none { (m : NamingMaker) (tick : ℕ)
+        → leader_then tick m ≡ Some m.maker.me
+        → is_present m.maker (company_then tick m) ≡ true
+        → is_named_anew tick (looked_by_name tick m)
+        (view_of (looked_by_name tick m) (company_then tick m))
+        ≡ false
+        → view_found tick m ≡ None }
+    ensures stays { (m : NamingMaker) (tick : ℕ)
+        → view_found tick m ≡ None
+        → (after_look tick m).maker.view ≡ m.maker.view }
+{}
+
+/// Law: a configured node that a view leaves out was not in company at the look that made it. One that was a member before, and of
+/// which a Hello came within three loops, was out of company for three loops; and a first view without it came only after three.
+pub fn law_left_out()
+    ensures { (m : NamingMaker) (tick : ℕ) (view : View) (rank : ℕ)
+        → rank < length m.maker.nodes
+        → MakesView tick m view
+        → is_member view.members rank ≡ false
+        → LeavesOut tick m rank }
+{}
