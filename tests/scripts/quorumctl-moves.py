@@ -195,7 +195,7 @@ def one_at_a_time():
     time.sleep(1)
     same(kept(), {}, "nothing is written meanwhile")
     lock.wait()
-    while "standing-2" not in kept():
+    while not WORDS.exists():
         if time.monotonic() - began > 60:
             raise SystemExit("it is not written after the lock is free")
         shows(two())
