@@ -17,7 +17,7 @@ import time
 
 QUORUMD = os.environ["QUORUMD"]
 PATIENCE = 90  # seconds
-ALL = 110  # seconds, after which a script gives up: less than tests/run lets it have
+ALL = int(os.environ.get("TEST_SECONDS", "110"))  # seconds, after which a script gives up: less than tests/run lets it have
 TURNS = 20000  # of a node that nobody ends: about a quarter of an hour
 LONG_LOOP = "500,2100,1000,1000,500"  # a node that the machine lets wait for less than three loops is not taken for a dead one
 WARNINGS = (": a file or a pipe: it resets nothing", ": nothing was there, and an empty file was made",
