@@ -68,7 +68,12 @@ same "$(head -n 1 errors)" 'other: warning: the image is for 1 nodes, and the se
 checked 1 "$no 0 image(s) of this cluster, and 1 are needed" IMAGE=empty
 checked 1 "$no no such image: d,e,f" IMAGE=d,e,f
 checked 0 '' COMMAND=node3 IMAGE=d,e,f
-checked 0 '' COMMAND=node3 IMAGE=d,none,f
+checked 0 'node 2 goes on without none' COMMAND=node3 IMAGE=d,none,f
+checked 0 'node 2 goes on without none' COMMAND=node3 IMAGE=d,none,f WAIT=2
+same "$(cat errors)" $'node 2 waits for none\nnode 2 goes on without none'
+(sleep 1 && cp f late) &
+checked 0 'node 2 waits for late' COMMAND=node3 IMAGE=d,late,f WAIT=60
+rm late
 checked 0 'empty: warning: sector 0 is no header: the file is no image' COMMAND=node3 IMAGE=d,empty,f
 checked 1 "$no no such image: none none2" COMMAND=node3 IMAGE=d,none,none2
 checked 1 "$no 1 image(s) of this cluster, and 2 are needed" COMMAND=node3 IMAGE=d,empty,other

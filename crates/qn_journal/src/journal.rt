@@ -23,7 +23,7 @@ use qn_model::{MailSeen, Packet, Phase, Settings};
 use qn_notice::{Event, Observer};
 use qn_polls::get_reply;
 use qn_safety::{Lease, Poll};
-use qn_sector::{get_mail, mail_sector};
+use qn_sector::{get_header, get_mail, mail_sector};
 use qn_told::{
     device_answered, device_silent, ended, event_line, feeds_failed, image_back, image_lost,
     mail_damaged, mail_failed, mail_told, network_back, network_lost, packets_refused, peer_lost,
@@ -268,9 +268,14 @@ impl<'a, R: Files<File = File> + Clock + Eprint> Journal<'a, R> {
     /// A sector was read, and has these bytes.
     fn look(&mut self, sector: u32, room: &Room, run: &NodeRun) {
         let me = run.rank();
-        if me.0 < 32 && sector % IMAGE == mail_sector(me) {
-            let image = (sector / IMAGE) as usize;
-            self.mailbox.read(image, get_mail(&room.sector));
+        let image = (sector / IMAGE) as usize;
+        if sector % IMAGE == 0 {
+            self.images
+                .header(image, get_header(&room.sector).is_some());
+        } else if me.0 < 32 && sector % IMAGE == mail_sector(me) {
+            let mail = get_mail(&room.sector);
+            self.images.mailbox(image, mail.is_some());
+            self.mailbox.read(image, mail);
         }
     }
 
