@@ -119,6 +119,15 @@ def free_ports(count):
     raise Wrong("no %d free ports" % count)
 
 
+def free_tcp_port():
+    """A port of 127.0.0.1 that a server of this script may bind by TCP. Those after it stay reserved."""
+    port = free_ports(1)
+    reserved = next(each for each in RESERVED if each.getsockname()[1] == port)
+    RESERVED.remove(reserved)
+    reserved.close()
+    return port
+
+
 HALTS = {"reset": 2, "off": 3, "crashdump": 5}  # the code that a halt is made with
 MOST_OF_A_PATH = 100  # bytes of a path in the line of an opening
 
