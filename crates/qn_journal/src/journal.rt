@@ -156,10 +156,22 @@ impl<'a, R: Files<File = File> + Clock + Eprint> Journal<'a, R> {
         if let Some(path) = self.group {
             self.telling.group = group_of_file(self.rt, path, tick);
         }
-        if let Some(told) = self.telling.telling(tick, &standing) {
+        self.tell_standing(tick, &standing, false, run);
+    }
+
+    /// Has the others told how this node is, with the next packet at the latest.
+    fn tell_standing(&mut self, tick: u64, standing: &Standing, has_left: bool, run: &NodeRun) {
+        if let Some(told) = self.telling.telling(tick, standing, has_left) {
             let nodes = run.settings().nodes.len().min(NODES);
             self.lines.voices().tell(told, nodes as u8);
         }
+    }
+
+    /// Has the others told that this node has left, before its farewell: one that does not hold may come to its end within one turn.
+    fn tell_leave(&mut self, tick: u64, run: &NodeRun) {
+        let standing = shown_standing(run);
+        self.telling.is_due(tick, run.loop_ms(), standing.holds);
+        self.tell_standing(tick, &standing, true, run);
     }
 
     /// Tells of a node that is heard now.
@@ -474,7 +486,10 @@ impl<'a, R: Files<File = File> + Clock + Eprint> Notices for Journal<'a, R> {
             Asked::Send { to } => if to == ARBITER && given.ok {
                 self.device.poll(run.tick());
             },
-            Asked::Now | Asked::Start | Asked::Stop | Asked::Disarm | Asked::Halt { .. } => {}
+            Asked::Disarm => if given.ok {
+                self.tell_leave(given.tick, run);
+            },
+            Asked::Now | Asked::Start | Asked::Stop | Asked::Halt { .. } => {}
         }
     }
 

@@ -46,14 +46,14 @@ impl Telling {
         is_news || is_old
     }
 
-    /// What it tells at that tick; None before its boot has a number.
-    pub(crate) fn telling(&self, tick: u64, standing: &Standing) -> Option<Told> {
+    /// What it tells at that tick; None before its boot has a number. A node that was disarmed has left.
+    pub(crate) fn telling(&self, tick: u64, standing: &Standing, has_left: bool) -> Option<Told> {
         Some(Told {
             group: self.group,
             held_ms: self.held_ms(tick).unwrap_or(0),
             holds: self.since.is_some(),
             incarnation: standing.incarnation?,
-            leaving: matches!(standing.phase, Phase::Leaving),
+            leaving: has_left || matches!(standing.phase, Phase::Leaving),
             quorate: standing.answer.quorate,
         })
     }

@@ -205,6 +205,13 @@ impl Network {
         }
     }
 
+    /// Tells each other node how this one is, where that is due. A node that leaves sends its farewell after that, and receives nothing any more.
+    pub(crate) fn tell_due(&mut self, lines: &Lines) {
+        if let Some(telling) = lines.voices().take_due() {
+            self.tell(telling);
+        }
+    }
+
     /// Tells each other node how this one is. What cannot be sent is lost, as any packet may be.
     fn tell(&mut self, telling: Telling) {
         let own = Rank(self.admission.peers.own);

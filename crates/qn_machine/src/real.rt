@@ -345,6 +345,7 @@ impl<'a, R: Files<File = File> + Net<Stream = TcpStream> + Clock + Eprint + Allo
     fn send(&mut self, to: Rank, bytes: &[u8]) -> Result<(), Failed> {
         let done = match network_of(&mut self.devices, &mut self.port) {
             Some(network) => {
+                network.tell_due(self.lines);
                 let errors = self.lines.over(&self.rt);
                 reported(&errors, "network", network.send(to, bytes))
             }
