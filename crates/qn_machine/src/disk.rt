@@ -139,17 +139,19 @@ impl Disk {
         };
         let mut found: u32 = 0;
         let mut least = EdgeTimes::longest();
+        let mut header = None;
         'images: for image in &mut self.images {
             match header_times(rt, errors, edge, image) {
-                Some((times, header)) => {
+                Some((times, of_image)) => {
                     found = found.saturating_add(1);
                     least = least.least(times);
-                    self.header = self.header.or(Some(header));
+                    header = header.or(Some(of_image));
                 }
                 None if edge.absent() == Absent::Refused => *image = None,
                 None => {}
             }
         }
+        self.header = header;
         if found < wanted {
             Err(Failed)
         } else {
@@ -197,13 +199,24 @@ impl Disk {
         R: Files<File = File> + Net<Stream = TcpStream> + Clock + AllocGlobal,
         E: Eprint,
     >(&mut self, rt: &R, errors: &E) {
-        let Some(again) = &mut self.again else {
+        let Some(mut again) = self.again.take() else {
             return;
         };
+        if opened(&self.images) < 3 {
+            self.try_again(rt, errors, &mut again);
+        }
+        self.again = Some(again);
+    }
+
+    /// The same, where the moment has come, and sets the next one.
+    fn try_again<
+        R: Files<File = File> + Net<Stream = TcpStream> + Clock + AllocGlobal,
+        E: Eprint,
+    >(&mut self, rt: &R, errors: &E, again: &mut Again) {
         let Ok(began) = rt.monotonic() else {
             return;
         };
-        if opened(&self.images) == 3 || began < again.from {
+        if began < again.from {
             return;
         }
         if let Ok((first, second, third)) = three_paths(again.word.as_str()) {
