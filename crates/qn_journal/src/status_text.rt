@@ -2,8 +2,6 @@
 use crate::device::DeviceNews;
 use crate::mail::{MailState, Mailbox};
 use crate::node_names::NodeNames;
-use crate::peers::Peers;
-use crate::telling::Telling;
 use crate::text::Text;
 use arrayvec::ArrayVec;
 use qn_base::{Mask, Rank, View};
@@ -12,6 +10,7 @@ use qn_live::Standing;
 use qn_machine::Voices;
 use qn_model::{Nodes, Phase};
 use qn_names::{phase_name, write_why};
+use qn_news::{Peers, Telling};
 use qn_shown::{Group, Heard, HostStanding};
 
 /// The high byte of a view's number names who may start: a number below this one names nobody in particular.

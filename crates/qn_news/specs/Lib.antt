@@ -1,0 +1,4 @@
+pub mod Hearing
+pub mod Losses
+pub mod Seldoms
+pub mod Tellings
