@@ -2,9 +2,7 @@
 ghost use Rattle.qn_io.specs.Receives.{FitsPacket};
 
 use crate::arbiter::ArbiterNews;
-use crate::device::DeviceNews;
 use crate::ending::end_text;
-use crate::entered::Entered;
 use crate::group_file::group_of_file;
 use crate::mail::{MailNews, MailState, Mailbox};
 use crate::node_names::NodeNames;
@@ -16,7 +14,7 @@ use qn_leases::ArbiterNotices;
 use qn_live::{Asked, Given, LiveEnd, NodeRun, Notices, Room, Standing};
 use qn_machine::{Lines, ReplacedFile};
 use qn_model::{MailSeen, Packet, Phase, Settings};
-use qn_news::{IMAGE, Images, Peers, Seldom, Telling};
+use qn_news::{DeviceNews, Entered, IMAGE, Images, Peers, Seldom, Telling};
 use qn_notice::{Event, Observer};
 use qn_polls::get_reply;
 use qn_safety::{Lease, Poll};
@@ -102,7 +100,7 @@ impl<'a, R: Files<File = File> + Clock + Eprint> Journal<'a, R> {
             telling: Telling::new(),
             observer: Observer::new(),
             arbiter: ArbiterNews::new(),
-            device: DeviceNews::default(),
+            device: DeviceNews::new(),
             images: Images::new(),
             msgwait: 0,
             mailbox: Mailbox::new(),

@@ -1,3 +1,5 @@
+pub mod Devices
+pub mod Entries
 pub mod Hearing
 pub mod Losses
 pub mod Seldoms

@@ -1,6 +1,8 @@
 //! On how many of three images a node runs.
 ghost use Rattle.std.specs.Prelude.{◌≡◌, ◌<◌, if◌then◌else◌, nat_lt, slice_set};
-ghost use Rattle.qn_news.specs.Losses.{differ, noted_at};
+ghost use Rattle.qn_news.specs.Losses.{noted_at};
+
+use crate::differing::differ;
 
 /// How many images there are.
 const IMAGES: usize = 3;
@@ -38,11 +40,11 @@ impl Images {
     /// Images of which nothing is known.
     pub fn new() -> Images
         ensures { result ≡ record {
-            are_three = false;
-            failed = replicate 3 false;
-            without_header = replicate 3 false;
-            without_mailbox = replicate 3 false;
-            told = replicate 3 false;
+          are_three = false;
+          failed = replicate 3 false;
+          without_header = replicate 3 false;
+          without_mailbox = replicate 3 false;
+          told = replicate 3 false;
         } }
     {
         Images {
@@ -57,8 +59,8 @@ impl Images {
     /// A call on that sector was made, and was done or failed.
     pub fn call(&mut self, sector: u32, ok: bool)
         ensures { self.new ≡ record self.old {
-            are_three = self.old.are_three || nat_lt 0 (sector / 1024);
-            failed = noted_at (sector / 1024) (not ok) self.old.failed;
+          are_three = self.old.are_three || nat_lt 0 (sector / 1024);
+          failed = noted_at (sector / 1024) (not ok) self.old.failed;
         } }
     {
         let place = (sector / IMAGE) as usize;
@@ -145,10 +147,4 @@ fn note(noted: &mut [bool; IMAGES], place: usize, is_so: bool)
     if place < IMAGES {
         noted[place] = is_so;
     }
-}
-
-fn differ(one: bool, other: bool) -> bool
-    ensures { result ≡ differ one other }
-{
-    if one { !other } else { other }
 }

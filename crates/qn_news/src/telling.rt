@@ -1,6 +1,7 @@
 //! What a node tells the others of itself, and when.
 ghost use Rattle.std.specs.Prelude.{◌≡◌};
 ghost use Rattle.qn_news.specs.Tellings.{changes, is_old, since_after};
+
 use qn_shown::{Group, Told};
 
 /// How the node is, as it tells it.
