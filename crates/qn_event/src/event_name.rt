@@ -147,9 +147,6 @@ impl EventName {
     pub fn of_word(word: &str) -> Option<EventName>
         ensures { result ≡ event_named word.now }
     {
-        EVENT_NAMES
-            .iter()
-            .copied()
-            .find(|name| name.word() == word)
+        EVENT_NAMES.iter().copied().find(|name| name.word() == word)
     }
 }

@@ -2,17 +2,11 @@
 ghost use Rattle.qn_io.specs.Receives.{FitsPacket};
 
 use crate::arbiter::ArbiterNews;
-use crate::device::DeviceNews;
 use crate::ending::end_text;
-use crate::entered::Entered;
 use crate::group_file::group_of_file;
-use crate::images::{IMAGE, Images};
 use crate::mail::{MailNews, MailState, Mailbox};
 use crate::node_names::NodeNames;
-use crate::peers::Peers;
-use crate::seldom::Seldom;
 use crate::status_text::{Counts, NAMES, Shown, status_text};
-use crate::telling::Telling;
 use qn_base::Rank;
 use qn_event::{EventLine, Moment};
 use qn_io::Got;
@@ -20,6 +14,7 @@ use qn_leases::ArbiterNotices;
 use qn_live::{Asked, Given, LiveEnd, NodeRun, Notices, Room, Standing};
 use qn_machine::{Lines, ReplacedFile};
 use qn_model::{MailSeen, Packet, Phase, Settings};
+use qn_news::{DeviceNews, Entered, IMAGE, Images, Peers, Seldom, Telling};
 use qn_notice::{Event, Observer};
 use qn_polls::get_reply;
 use qn_safety::{Lease, Poll};
@@ -105,8 +100,8 @@ impl<'a, R: Files<File = File> + Clock + Eprint> Journal<'a, R> {
             telling: Telling::new(),
             observer: Observer::new(),
             arbiter: ArbiterNews::new(),
-            device: DeviceNews::default(),
-            images: Images::default(),
+            device: DeviceNews::new(),
+            images: Images::new(),
             msgwait: 0,
             mailbox: Mailbox::new(),
             peers: Peers::new(),
@@ -161,7 +156,12 @@ impl<'a, R: Files<File = File> + Clock + Eprint> Journal<'a, R> {
 
     /// Has the others told how this node is, with the next packet at the latest.
     fn tell_standing(&mut self, tick: u64, standing: &Standing, has_left: bool, run: &NodeRun) {
-        if let Some(told) = self.telling.telling(tick, standing, has_left) {
+        let is_leaving = has_left || matches!(standing.phase, Phase::Leaving);
+        let quorate = standing.answer.quorate;
+        let told = self
+            .telling
+            .telling(tick, standing.incarnation, is_leaving, quorate);
+        if let Some(told) = told {
             let nodes = run.settings().nodes.len().min(NODES);
             self.lines.voices().tell(told, nodes as u8);
         }

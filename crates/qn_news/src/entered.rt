@@ -3,7 +3,7 @@ use qn_model::{HeaderSeen, MailSeen, What};
 
 /// What of an entry more is told of.
 #[derive(Clone, Copy)]
-pub(crate) enum Entered {
+pub enum Entered {
     /// The header of an image, with its msgwait in milliseconds.
     Header(u64),
     /// A read of the node's mailbox.
@@ -15,8 +15,13 @@ pub(crate) enum Entered {
 }
 
 impl Entered {
+    ghost use Rattle.std.specs.Prelude.{◌≡◌};
+    ghost use Rattle.qn_news.specs.Entries.{entered};
+
     /// That of an entry.
-    pub(crate) fn of(entry: What) -> Entered {
+    pub fn of(entry: What) -> Entered
+        ensures { result ≡ entered entry }
+    {
         match entry {
             What::Header(HeaderSeen::Read { timing, .. }) => Entered::Header(timing.msgwait),
             What::MailChecked(seen) | What::MailRead(seen) => Entered::Mail(seen),
