@@ -54,7 +54,13 @@ fn check_by<R: Files<File = File> + Net<Stream = TcpStream> + Clock + Print + Ep
     let mut image = OpenImage::open(rt, path)?;
     let seen = look_at_image(rt.alloc(), &mut image, settings)?;
     say(rt, check_text(rt.alloc(), &seen, is_json)?.as_str())?;
-    Ok(status_of(seen.findings.as_slice()))
+    let status = status_of(seen.findings.as_slice());
+    if status == WRONG {
+        let _ = eprintln!(rt;
+            "quorumctl: {path}: give the image and the text of one cluster; IMAGE.md of the documentation says what mends an image"
+        );
+    }
+    Ok(status)
 }
 
 /// The exit status of a check by what it found.
