@@ -80,7 +80,7 @@ scene_network_added() {
             cp "$room/$conf.conf" "$room/host$n/etc/quorumd/corosync.conf"
             on "$n" systemctl restart "quorumd@$n.service" && until_true 60 well_again "$n" && writes_again 40 || return 1
         done
-        [ "$conf" != two ] || { owner_moves_to_1 && on 1 quorumctl status; } || return 1
+        [ "$conf" != two ] || { owner_moves_to_1 && until_true 20 on 1 quorumctl status; } || return 1
     done
     none_reset && judge_rows
 }
