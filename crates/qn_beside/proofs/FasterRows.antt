@@ -83,11 +83,11 @@ breaks_is_allowed : are_allowed_faster (with_device 10000) usual_times least_lea
 unfolding lease_steps
 breaks_is_allowed = refl
 
-slow_is_quorate : IsQuorateIn with_device 0 (sees 1) (run_beside (with_device 10000) usual_times least_lease breaks)
+slow_is_quorate : IsQuorateIn (with_device 10000) 0 (sees 1) (run_beside (with_device 10000) usual_times least_lease breaks)
 unfolding lease_steps
 slow_is_quorate = record { on = refl; sees = refl; quorate = refl }
 
-other_is_quorate : IsQuorateIn with_device 1 (sees 2) (run_beside (with_device 10000) usual_times least_lease breaks)
+other_is_quorate : IsQuorateIn (with_device 10000) 1 (sees 2) (run_beside (with_device 10000) usual_times least_lease breaks)
 unfolding lease_steps
 other_is_quorate = record { on = refl; sees = refl; quorate = refl }
 
