@@ -7,8 +7,8 @@
 ctl() {
     local wanted=$1 text=$2 status=0
     shift 2
-    "$QUORUMCTL" "$@" > got 2> said || status=$?
-    grep -v -e ' IMAGE.md of the documentation ' -e ' has the ids of its nodes$' said > errors || true
+    "$QUORUMCTL" "$@" > got 2> spoken || status=$?
+    grep -v -e ' IMAGE.md of the documentation ' -e ' has the ids of its nodes$' spoken > errors || true
     same "$* ends with $status and says $(cat got errors)" "$* ends with $wanted and says $(printf "$text")"
 }
 
@@ -29,7 +29,7 @@ cmp disk whole
 # another cluster
 printf 'nodelist {\nnode {\nnodeid: 1\n}\nnode {\nnodeid: 2\n}\nnode {\nnodeid: 3\n}\n}\n' > three.conf
 ctl 1 "${lines}warning: the image is for 2 nodes, and the settings have 3\n" check --image disk < three.conf
-same "$(cat said)" 'quorumctl: disk: give the image and the text of one cluster; IMAGE.md of the documentation says what mends an image'
+same "$(cat spoken)" 'quorumctl: disk: give the image and the text of one cluster; IMAGE.md of the documentation says what mends an image'
 printf 'nodelist {\nnode {\nnodeid: 1\n}\nnode {\nnodeid: 3\n}\n}\n' > other.conf
 ctl 1 "${lines}warning: sector 3 has the id 2, and the settings have 3 there\n" check --image disk < other.conf
 ctl 3 'fault: nodelist: there is no node section\n' check --image disk <<< '# nothing'
@@ -116,7 +116,7 @@ passed=$((($(date +%s%N) - begin) / 1000000))
 ctl 0 'the mailbox is empty\n' wait --image disk --id 2
 wait
 ctl 16 'fault: no slot of the image has the id\n' wait --image disk --id 3
-same "$(cat said)" 'quorumctl: disk: quorumctl list --image disk has the ids of its nodes'
+same "$(cat spoken)" 'quorumctl: disk: quorumctl list --image disk has the ids of its nodes'
 
 # an exit that the node does not take: it runs on, it boots, or the exit is cleared. `slot CLEAN` writes the slot of node 1 in incarnation 7
 slot() {

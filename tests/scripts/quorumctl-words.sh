@@ -17,6 +17,15 @@ for command in settings timing watchdog check list wait status history standby u
         "$command $(printf '%s\n' "$page" | sed -n 's/.*Fl \(-[a-z-]*\).*/-\1/p' | options)"
 done
 
+# `help` is `--help`; `--help` behind a command has its lines of that, and an example of it
+"$QUORUMCTL" help | cmp text -
+for command in settings timing watchdog check list wait status history standby unstandby fit move group; do
+    "$QUORUMCTL" $command --help > one <&-
+    same "$(head -n 2 one)" "$(grep -A 1 -e "^quorumctl $command\( .*\)*\$" text)"
+    same "$(sed -n 3p one)" 'for example:'
+    grep -q "^    .*quorumctl $command\>" <(sed -n 4p one)
+done
+
 # refused 'WHAT' WORD..: status 2, of `status` 3, nothing on standard output, and this line on standard error
 refused() {
     local what=$1 status=0 wanted=2
