@@ -40,10 +40,10 @@ impl<'word> Nearest<'word> {
     }
 }
 
-/// How far a word is from a name. That which it begins is nearest; where there is no memory to count, none is near.
+/// How far a word is from a name. One that a name begins with is near; where there is no memory to count, none is.
 fn edits_of(alloc: Global, word: &str, name: &str) -> usize {
     if word.len() > 1 && name.starts_with(word) {
-        return 0;
+        return 1;
     }
     osa_distance(alloc, word, name).unwrap_or(usize::MAX)
 }
