@@ -140,13 +140,13 @@ rm -r etc/quorumd/corosync.conf etc/quorumd/node-2.env etc/systemd
 setup 1 'quorumd-setup: absent is no file: a key is made by: (umask 077; head -c 32 /dev/urandom > key)' three.conf --image "$disk" --id 3 --key absent
 rm key
 (umask 077; head -c 31 /dev/zero > key)
-setup 1 'quorumd-setup: key: 31 bytes, a key has 32 to 4096' three.conf --image "$disk" --id 3 --key key
+setup 1 'quorumd-setup: key: 31 bytes, a key has 32 to 4096; copy that of another host' three.conf --image "$disk" --id 3 --key key
 head -c 32 /dev/zero > key
 chmod 644 key
-setup 1 'quorumd-setup: key: others may read it' three.conf --image "$disk" --id 3 --key key
+setup 1 'quorumd-setup: key: others may read it; chmod 600 key' three.conf --image "$disk" --id 3 --key key
 chmod 600 key
 sed '/ring0_addr: 192.0.2.8/d' three.conf > part.conf
-setup 1 'quorumd-setup: part.conf: node 2 has no ring0_addr' part.conf --image "$disk" --id 3 --key key
+setup 1 'quorumd-setup: part.conf: node 2 has no ring0_addr; each node has an address of its own on each network' part.conf --image "$disk" --id 3 --key key
 [ ! -e etc/quorumd/key ]
 setup 0 'node 3 of three.conf is set up: systemctl enable --now quorumd@3.service' three.conf --image "$disk" --id 3 --key key
 cmp key etc/quorumd/key

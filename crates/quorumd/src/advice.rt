@@ -95,14 +95,14 @@ impl<'words> Advice<'words> {
         let image = self.image;
         write!(
             f,
-            "{image}: look whether its file system is mounted, or its server runs"
+            "{image}: mend what the line before this one names, and give the command again; "
         )?;
         match self.command {
             "create" | "message" | "migrate" => write!(
                 f,
-                "; what was asked for is perhaps done: quorumctl list --image {image} shows it"
+                "it is perhaps done: quorumctl list --image {image} shows it"
             ),
-            _ => Ok(()),
+            _ => f.write_str("quorumd list --help has the forms of an image"),
         }
     }
 

@@ -91,7 +91,7 @@ fn take_text<R: AllocGlobal + Eprint>(
     let settings = read_settings(rt, path, &tree)?;
     let sections = sections_of(rt.alloc(), &tree).map_err(|_| NO_MEMORY)?;
     let networks = networks_of(sections.as_slice(), settings.nodes.as_slice());
-    let networks = networks.map_err(|fault| refuse_networks(rt, path, fault))?;
+    let networks = networks.map_err(|fault| refuse(rt, path, fault))?;
     let arbiter = arbiter_of(device_of(&tree), &networks.first);
     edge.texts = texts_of(before, bytes, &settings, &networks.first, arbiter.ok());
     edge.arbiter = match arbiter {
@@ -139,14 +139,6 @@ fn texts_of(
 /// Says what is wrong with a file, and gives the status to end with. That it cannot be said is no fault.
 fn refuse<E: Eprint, W: Display + Drop>(errors: &E, path: &str, why: W) -> u8 {
     let _ = eprintln!(errors; "{PROGRAM}: {path}: {why}");
-    USAGE
-}
-
-/// Says what is wrong with the addresses of a text, and gives the status to end with. That it cannot be said is no fault.
-fn refuse_networks<E: Eprint, W: Display + Drop>(errors: &E, path: &str, why: W) -> u8 {
-    let _ = eprintln!(errors;
-        "{PROGRAM}: {path}: {why}; each node has an address of its own on each network"
-    );
     USAGE
 }
 

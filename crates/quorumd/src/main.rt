@@ -77,7 +77,9 @@ fn run(rt: &HostRuntime, said: Outside, words: &[String]) -> u8 {
     );
     if status == USAGE {
         say_what_is_wrong(rt, words);
-    } else if let Some(advice) = Advice::of(words, out.fault()) {
+    } else if status != WRITE_FAULT
+        && let Some(advice) = Advice::of(words, out.fault())
+    {
         let _ = eprintln!(rt; "{PROGRAM}: {advice}");
     }
     status
