@@ -32,6 +32,7 @@ class NamingMember(Member):
         self.known = self.visible_now = (ident,)  # who was visible at the last look, and of whom of them it is known
         self.is_mixed = True  # whether the last look saw a node of which nothing is known
         self.led_since, self.came = None, set()  # the first of the looks in a row that found this leader, and who announced a view since
+        self.withdrawn = set()  # who said that it follows another one since it announced a view
         self.installed = None  # the tick of the present view
         self.handed = None  # the own copy of the present view
         self.looked = None  # the tick of the last look
@@ -40,6 +41,8 @@ class NamingMember(Member):
 
     def on_hello(self, tick, sender, said, standing=None):
         super().on_hello(tick, sender, said)
+        if sender in self.votes and sender != self.ident and self.said[sender].follows not in (None, sender):
+            self.withdrawn.add(sender)
         if standing is not None and sender in self.votes:
             self.standings[sender] = standing
         else:
@@ -49,6 +52,7 @@ class NamingMember(Member):
         super().on_announce(sender, view)
         if {sender, *view.members} <= set(self.ids):
             self.came.add(sender)
+            self.withdrawn.discard(sender)
 
     # ---- a look
 
@@ -190,12 +194,14 @@ class NamingMember(Member):
         return View(next_number(self.greatest, self.name_for(members)), members) if is_new else None
 
     def followed_view(self):
-        """One that is not newer than the present view is taken only of a leader that led at each look for a loop, and that announced it since."""
+        """One that is newer than the present view is taken where the leader did not say since that it follows another one; any of a leader that led at each look for a loop, and
+        that announced it since."""
         view = super().followed_view()
-        if view is None or self.view is None or plain_number(view.number) > plain_number(self.view.number):
-            return view
-        has_led = self.looked >= self.led_since + self.loop
-        return view if has_led and self.leader in self.came else None
+        if view is None:
+            return None
+        is_newer = self.view is None or plain_number(view.number) > plain_number(self.view.number)
+        is_proven = self.looked >= self.led_since + self.loop and self.leader in self.came
+        return view if is_newer and self.leader not in self.withdrawn or is_proven else None
 
     # ---- what is said
 

@@ -17,7 +17,7 @@ import time
 
 QUORUMD = os.environ["QUORUMD"]
 PATIENCE = 90  # seconds
-ALL = 110  # seconds, after which a script gives up: less than tests/run lets it have
+ALL = int(os.environ.get("TEST_SECONDS", "110"))  # seconds, after which a script gives up: less than tests/run lets it have
 TURNS = 20000  # of a node that nobody ends: about a quarter of an hour
 LONG_LOOP = "500,2100,1000,1000,500"  # a node that the machine lets wait for less than three loops is not taken for a dead one
 WARNINGS = (": a file or a pipe: it resets nothing", ": nothing was there, and an empty file was made",
@@ -117,6 +117,15 @@ def free_ports(count):
         RESERVED.extend(sockets)
         return first
     raise Wrong("no %d free ports" % count)
+
+
+def free_tcp_port():
+    """A port of 127.0.0.1 that a server of this script may bind by TCP. Those after it stay reserved."""
+    port = free_ports(1)
+    reserved = next(each for each in RESERVED if each.getsockname()[1] == port)
+    RESERVED.remove(reserved)
+    reserved.close()
+    return port
 
 
 HALTS = {"reset": 2, "off": 3, "crashdump": 5}  # the code that a halt is made with

@@ -11,7 +11,7 @@ import subprocess
 import threading
 import time
 
-from live import RESERVED, STARTED, free_ports, wait_for
+from live import STARTED, free_tcp_port, wait_for
 
 OPTION, REPLY = b"IHAVEOPT", 0x3E889045565A9
 GO, ACK, INFO, UNKNOWN = 7, 1, 3, 2**31 + 6
@@ -166,8 +166,7 @@ def nbdkit(folder, file):
 
 def nbd_server(folder, file):
     """By TCP, where an export has a name. It goes into the background."""
-    port, settings = free_ports(1), folder / "nbd-server.conf"
-    RESERVED[-1].close()
+    port, settings = free_tcp_port(), folder / "nbd-server.conf"
     text = "[generic]\nlistenaddr = 127.0.0.1\nport = %d\n[q]\nexportname = %s\nsync = true\nflush = true\nfua = true\n"
     settings.write_text(text % (port, file))
     pid = folder / "nbd-server.pid"

@@ -30,6 +30,15 @@ install() {
     [ "$status" = 0 ] || { cat "$room/dpkg"; exit 1; }
 }
 
+# text_of LINES N..: the settings text of these hosts, with these lines in its section `quorum`
+text_of() {
+    local n lines=$1
+    shift
+    echo 'nodelist {'
+    for n in "$@"; do printf ' node {\n  nodeid: %s\n  ring0_addr: 192.0.2.%s\n }\n' "$n" "$n"; done
+    printf '}\nquorum {\n provider: corosync_votequorum\n%s}\n' "${lines:+$lines$'\n'}"
+}
+
 # set_up: three hosts that are off, of one settings text, with the package installed
 set_up() {
     local n conf=$room/corosync.conf
@@ -38,11 +47,7 @@ set_up() {
     : > "$shared/journal"
     : > "$room/events"
     : > "$room/signs"
-    {
-        echo 'nodelist {'
-        for n in 1 2 3; do printf ' node {\n  nodeid: %s\n  ring0_addr: 192.0.2.%s\n }\n' "$n" "$n"; done
-        printf '}\nquorum {\n provider: corosync_votequorum\n}\n'
-    } > "$conf"
+    text_of '' 1 2 3 > "$conf"
     (umask 077 && head -c 32 /dev/urandom > "$room/key")
     rm -f "$shared/disk"
     # a disk for the resource's file system, which all hosts see
@@ -153,6 +158,15 @@ device_time() {
     esac
 }
 
+# plug_in LINK: that link of a host that boots is put on the bridge of the second network, once it is there
+plug_in() {
+    local round
+    for ((round = 0; round < 100; round++)); do
+        ! ip -n "$tag" link set "$1" master br1 up 2> /dev/null || return 0
+        sleep 0.1
+    done
+}
+
 # power N: lets host N run; a reset starts it again after the time of a firmware, a power-off does not
 power() {
     local n=$1
@@ -160,6 +174,7 @@ power() {
         while :; do
             binds=(--bind="$room/wd$n:/srv/watchdog")
             [ -e "$room/no-storage" ] || binds+=(--bind="$shared:/srv/cluster")
+            [ -z "${SECOND_NETWORK-}" ] || { binds+=(--network-veth-extra="second$n:host1"); plug_in "second$n" & }
             python3 "$here/watchdog" "$room/wd$n/watchdog" "$room/host$n.pid" "$room/events" "host$n" "$(device_time)" &
             dog=$!
             in_group "$tag-host$n" nsenter --net="/run/netns/$tag" systemd-nspawn --quiet --register=no --keep-unit --directory="$room/host$n" --machine="$tag-host$n" --hostname="host$n" \
@@ -297,6 +312,7 @@ take_down() {
     loops=()
     drop_groups
     ip netns delete "$tag" 2> /dev/null
+    SECOND_NETWORK=
     rm -f "$room/ending" "$room/no-storage"
     rm -rf "$room"/host?.work "$room"/wd?
     return 0

@@ -1,7 +1,8 @@
 # The scenes. Each is a function that fails where something else came than should. Sourced by `containers`.
 all_scenes='clean_stop exit_message off_message reboot_of_holder poweroff_of_holder kill_node looks hang_node cable_cut deaf_holder no_image other_image slow_stop stuck_stop
 by_hand supervisor_dies supervisor_hangs reexecuted reloaded slow_start quorum_back quorum_lost all_off all_rebooted late_disk late_network isolated run_full journal_hangs moves stop_while_starting edited start_mode resource_dies start_fails maintenance planned_handover third_handover turns_used renewed three_images confined
-postgres pgsql system_upgraded database_upgraded upgrade purge pages setup setup_by_names page_device page_servers page_etcd acceptance acceptance_servers acceptance_red arbiter arbiter_by_name arbiter_removed'
+postgres pgsql system_upgraded database_upgraded upgrade purge pages setup setup_by_names page_device page_servers page_etcd acceptance acceptance_servers acceptance_red arbiter arbiter_by_name arbiter_removed
+moves_by_name standby unfit all_standby witness two_node device device_cut last_man named one_network both_networks network_added late_second_network'
 
 # begun [HOST]: the cluster is up and this host holds
 begun() {
@@ -101,13 +102,13 @@ scene_looks() {
     local name
     FIRMWARE=20 begun || return 1
     on 1 systemctl enable --now quorumd-page.timer && on 2 systemctl enable --now quorumd-page.timer || return 1
-    until_true 40 is_page 1 'holds the resource.' || return 1
+    until_true 40 is_page 1 'holds the resource for ' || return 1
     until_true 40 is_page 2 '<h2>The last hour</h2>' || return 1
     fault 'the node of host 1 is killed'
     on 1 systemctl kill --kill-whom=main -s KILL quorumd@1.service
     until_true 30 another_owns 1 || return 1
     until_true 40 is_page 2 'node 1 was fenced by node 2' || return 1
-    until_true 40 is_page 2 'holds the resource.' || return 1
+    until_true 40 is_page 2 'holds the resource for ' || return 1
     # it is enabled, so it is written after the reset too
     until_true 60 unit_is 1 active || return 1
     until_true 40 is_page 1 'hears node 2' || return 1
@@ -165,6 +166,7 @@ scene_deaf_holder() {
 scene_no_image() {
     echo 'WAIT=5' >> "$room/host3/etc/quorumd/node-3.env"
     touch "$room/no-storage"
+    fault 'host 3 boots without the image'
     power 3
     until_true 40 unit_is 3 failed || return 1
     sleep 10
@@ -174,6 +176,7 @@ scene_no_image() {
 # Nor is a host reset whose image is that of another cluster.
 scene_other_image() {
     printf 'nodelist {\n node {\n nodeid: 3\n }\n}\nquorum {\n provider: corosync_votequorum\n}\n' > "$room/host3/etc/quorumd/corosync.conf"
+    fault 'host 3 boots with an image of another cluster'
     power 3
     until_true 40 unit_is 3 failed || return 1
     sleep 10
@@ -550,6 +553,7 @@ scene_turns_used() {
     small_resource
     for n in 1 2 3; do power "$n"; done
     until_true 60 owns 1 || return 1
+    fault 'the turns of node 1 run out'
     until_true 60 said 1 'left after its turns' || return 1
     until_true 20 owner || return 1
     until_true 20 unit_is 1 active || return 1

@@ -51,6 +51,18 @@ TOLD = [
     ("claimed", 'zeta="event=halt cause=off" incarnation=7 eta=1', "node 3 booted as incarnation 7"),
     ("mail", 'message="a b=c" by=operator', "node 3 read a b=c from operator"),
     ("mail", "message=\x1b[2J by=\u00e9\\", "node 3 read \\u{1b}[2J from \\u{e9}\\\\"),
+    # %XX in a value is the byte of these digits, and what it says is shown as any other text
+    ("claimed", "incarnation=7 name=db%201", "node 3 (db 1) booted as incarnation 7"),
+    ("claimed", "incarnation=7 name=db%25201", "node 3 (db%201) booted as incarnation 7"),
+    ("claimed", "incarnation=7 name=a%22b%3D%25", 'node 3 (a"b=%) booted as incarnation 7'),
+    ("claimed", "incarnation=7 name=r\u00e4ck%25", "node 3 (r\\u{e4}ck%) booted as incarnation 7"),
+    ("end", 'end="left %25 =%7F"', "node 3 ended: left % =\\u{7f}"),
+    ("mail", "message=%1B[2J by=operator", "node 3 read \\u{1b}[2J from operator"),
+    # a value in which it is no byte, or which is no text, stands as it is; so does one that no line has room for
+    ("mail", "message=a%2 by=%zz", "node 3 read a%2 from %zz"),
+    ("mail", "message=% by=%2f", "node 3 read % from %2f"),
+    ("mail", "message=%FF by=x%25", "node 3 read %FF from x%"),
+    ("mail", "message=%s by=%s" % ("%25" * 128, "%25" * 129), "node 3 read %s from %s" % ("%" * 128, "%25" * 129)),
 ]
 
 # lines that no node wrote, or not so

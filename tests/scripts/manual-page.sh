@@ -7,6 +7,12 @@ if command -v mandoc > /dev/null; then
 else
     echo 'skipped: not installed (Debian: mandoc), to look for warnings in the manual pages'
 fi
+# the sections of each page that have a place by custom stand in its order, as mandoc has it
+printf '%s\n' NAME SYNOPSIS DESCRIPTION ENVIRONMENT FILES 'EXIT STATUS' EXAMPLES DIAGNOSTICS 'SEE ALSO' CAVEATS > order
+for page in "$TOP"/man/*.[18]; do
+    sed -n 's/^\.Sh //p' "$page" | grep -Fx -f order > sections
+    same "$(cat sections)" "$(grep -Fx -f sections order)"
+done
 # each program of the table has a page, which names its options
 "$TOP/completions/make" --table | grep -v '^ ' | grep . > lines
 while read -r program words; do

@@ -1,55 +1,7 @@
 """Three nodes of one host that an operator moves by name, puts on standby and back, by quorumctl, in the folders of the package, which lie in a name space of mounts of their own. What
 node-check does before a start of the unit is done by its helper. A witness never starts. A node on which a start failed is unfit, and may hold again once it is fit."""
-import json
-import os
-import pathlib
-import subprocess
-
-from live import Cluster, Node, in_package_folders, same, try_all, wait_for
-
-QUORUMCTL = os.environ["QUORUMCTL"]
-RUN, KEPT = pathlib.Path("/run/quorumd"), pathlib.Path("/var/lib/quorumd")
-WAITING = "waiting; Ctrl-C ends the waiting alone\n"
-
-
-class Named(Cluster):
-    """Three nodes with names and addresses."""
-
-    def place(self, ident):
-        return "name: db%d\nring0_addr: 127.0.0.%d\n" % (ident, ident)
-
-
-class Hosted(Node):
-    """A node that is started as the unit does."""
-
-    def __init__(self, cluster, ident):
-        kept, words = KEPT / ("standby-%d" % ident), RUN / ("standing-%d" % ident)
-        words.write_text(kept.read_text() if kept.exists() else "")
-        self.status = RUN / ("node-%d.json" % ident)
-        self.status.unlink(missing_ok=True)
-        before = ("--open", "--links", str(cluster.folder / "conf"), "--status", str(self.status), "--standing-file", str(words))
-        super().__init__(cluster, ident, before=before)
-
-    def shown(self):
-        return json.loads(wait_for("a status", lambda: self.status.exists() and self.status.read_text()))
-
-    def holds(self):
-        return self.shown()["holds"]
-
-    def why(self):
-        return self.shown()["why"]
-
-    def waits_for_all(self):
-        wait_for("db%d sees all" % self.ident, lambda: (self.shown()["view"] or {}).get("members") == [1, 2, 3])
-
-
-def quorumctl(*words):
-    done = subprocess.run([QUORUMCTL, *words], stdin=subprocess.DEVNULL, stdout=subprocess.PIPE, stderr=subprocess.PIPE, text=True, check=False)
-    return done.returncode, done.stdout, done.stderr
-
-
-def holders(nodes):
-    return [node.ident for node in nodes if node.runs() and node.holds()]
+from hosted import RUN, WAITING, Hosted, Named, holders, quorumctl
+from live import in_package_folders, same, try_all, wait_for
 
 
 def moves(nodes):

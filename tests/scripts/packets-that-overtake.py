@@ -1,5 +1,5 @@
 """Three nodes with a key on a network that delays each packet by another time, up to 2, 20 and 500 ms, so that packets overtake one another: nobody
-is reset, the holder goes on, and no packet is refused."""
+is reset, the holder goes on, and no packet is refused. OVERTAKING_SECONDS in the environment is how long each is so, 40 where it is absent."""
 import os
 import sys
 import time
@@ -8,7 +8,7 @@ from live import LONG_LOOP, Cluster, Node, in_namespace, same, try_all
 from relays import Namespaces, Relay
 
 IDS = 1, 2, 3
-SECONDS = 40
+SECONDS = int(os.environ.get("OVERTAKING_SECONDS", "40"))
 
 
 class Place(Namespaces):

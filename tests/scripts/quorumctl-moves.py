@@ -13,7 +13,7 @@ from live import in_package_folders
 RUN, KEPT = pathlib.Path("/run/quorumd"), pathlib.Path("/var/lib/quorumd")
 WORDS, REMEMBERED = RUN / "standing-2", KEPT / "standby-2"
 WAITING = "waiting; Ctrl-C ends the waiting alone\n"
-MISSING = "a node is neither in the view nor has left: it would be reset once more, and the service would wait for that; stop it there, or --yes does it"
+MISSING = "a node is neither in the view nor has left: it would be reset once more, and the service would wait for that; stop it there, or --yes does it:"
 NOT_TAKEN = "2 does not take it: another command took it back, or it runs without --standing-file\n"
 
 
@@ -195,7 +195,7 @@ def one_at_a_time():
     time.sleep(1)
     same(kept(), {}, "nothing is written meanwhile")
     lock.wait()
-    while "standing-2" not in kept():
+    while not WORDS.exists():
         if time.monotonic() - began > 60:
             raise SystemExit("it is not written after the lock is free")
         shows(two())

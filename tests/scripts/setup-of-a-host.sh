@@ -44,7 +44,7 @@ disk=$PWD/disk
 
 # words
 setup 2 "$usage"
-same "$(head -n 1 said)" 'quorumd-setup: no corosync.conf'
+same "$(head -n 1 said)" 'quorumd-setup: no corosync.conf: the text of the cluster stands first'
 for words in three.conf '--image /d' 'three.conf --image' 'three.conf --image d' 'three.conf --image /d,/e' 'three.conf --image /d,/e,/f,/g' 'three.conf --image /d,,/f' \
     'three.conf --image /d --id 0' 'three.conf --image /d --id x' 'three.conf --image /d --id 99999999999' 'three.conf --image /d --port 80' \
     'three.conf --image /d --watchdog dog' 'three.conf --image /d;e' 'three.conf --image nbd:' 'three.conf --image /d,nbd:x,e' 'three.conf --image ftp:x' 'three.conf --image /d --watchdog nbd:x' 'three.conf --image /d other' 'three.conf --image /d --id' \
@@ -57,7 +57,7 @@ setup 2 "$usage" three.conf --image "/a b"
 # the settings text, and the id of this host in it
 for conf in absent.conf etc; do
     setup 2 "$usage" $conf --image "$disk"
-    same "$(head -n 1 said)" "quorumd-setup: $conf is no file that can be read"
+    same "$(head -n 1 said)" "quorumd-setup: $conf is no file that can be read: look at its path, as root"
 done
 echo 'nodelist {' > wrong.conf
 setup 1 "$("$QUORUMCTL" settings < wrong.conf | sed '1s/^/quorumd-setup: wrong.conf: /' | tail -n 1)" wrong.conf --image "$disk"
@@ -71,7 +71,7 @@ setup 1 'quorumd-setup: HERE/disk is not there: --create on one host makes it' h
 # the id of this host
 setup 1 'quorumd-setup: none.conf has not one node with a name or an address of this host: say --id N' none.conf --image "$disk" --key key
 setup 1 'quorumd-setup: both.conf has not one node with a name or an address of this host: say --id N' both.conf --image "$disk" --key key
-setup 1 'quorumd-setup: three.conf has no node 4' three.conf --image "$disk" --id 4 --key key
+setup 1 'quorumd-setup: three.conf has no node 4: --id is one of its nodeids, 1 2 3' three.conf --image "$disk" --id 4 --key key
 # names of hosts
 named() {
     printf 'nodelist {\n node {\n  nodeid: 1\n  ring0_addr: 192.0.2.7\n }\n node {\n  nodeid: 2\n  ring0_addr: %s\n }\n node {\n  nodeid: 3\n  name: third\n  ring0_addr: gamma.example\n }\n}\n' "$1"

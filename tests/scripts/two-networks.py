@@ -1,7 +1,6 @@
-"""Three nodes on two networks: either network is cut, slow, out of order, or comes and goes, and nobody is reset, no view changes, and each change is
-said once; both are cut, which is as a cut of one network is; a node boots while it has one of its two addresses; and one node after the other goes from
+"""Three nodes on two networks: either network is cut, slow, out of order, or comes and goes, or one cable of it is pulled, and nobody is reset, no view changes,
+and each change is said once; both are cut, which is as a cut of one network is; a node boots while it has one of its two addresses; and one node after the other goes from
 a text with one network to the same with two, and back. TWO_NETWORKS_SECONDS in the environment is how long a network is so, 24 where it is absent."""
-import json
 import os
 import re
 import shutil
@@ -10,88 +9,14 @@ import sys
 import time
 
 import live
-from live import LONG_LOOP, Cluster, Node, Wrong, done_of, in_namespace, same, try_all, wait_for
-from relays import Namespaces, Relay
+from live import Wrong, in_namespace, same, try_all, wait_for
+from networks import IDS, IPV4, LOOP, SAID, TwoNetworks
 from rotation import TIMING, rotate
 
-IDS = 1, 2, 3
-LOOP = 1.0  # of LONG_LOOP, in seconds
 SECONDS = int(os.environ.get("TWO_NETWORKS_SECONDS", "24"))
 FAMILIES = ("10.77.0.%d", "24"), ("fd77::%d", "64")  # the addresses on both networks
-IPV4 = ("10.77.0.%d", "24"), ("10.77.1.%d", "24")
-SAID = "network-lost", "network-back"
 SPAN = 10  # seconds in which the system calls of a node at rest are counted
 TRIES = 5
-
-
-class TwoNetworks(Cluster):
-    """A cluster whose nodes are on two networks, with a key, and the relay of each network."""
-
-    TIMES = LONG_LOOP
-
-    def __init__(self, name, networks=IPV4, absent=()):
-        self.networks = networks
-        super().__init__(name, ids=IDS, timing=self.TIMES)
-        (self.folder / "key").write_bytes(os.urandom(128))
-        (self.folder / "key").chmod(0o600)
-        text = (self.folder / "conf").read_text()
-        (self.folder / "one").write_text("".join(line + "\n" for line in text.splitlines() if "ring1_addr" not in line))
-        self.spaces = Namespaces(name, IDS, networks=2)
-        for ident in IDS:
-            for network in 0, 1:
-                if (ident, network) not in absent:
-                    self.give_address(ident, network)
-        self.relays = [Relay(ports, seed=name) for ports in self.spaces.ports]
-        self.nodes = {}
-
-    def place(self, ident):
-        return "".join("ring%d_addr: %s\n" % (network, form % ident) for network, (form, _) in enumerate(self.networks))
-
-    def give_address(self, ident, network):
-        form, width = self.networks[network]
-        self.spaces.give_address(ident, network, form % ident + "/" + width)
-
-    def start(self, ident, conf="conf"):
-        before = ["--links", str(self.folder / conf), "--key", str(self.folder / "key"), "--seal-meaning", "--status", str(self.status_of(ident))]
-        self.nodes[ident] = Node(self, ident, before=before, run_as=self.spaces.enter(ident), conf=conf)
-        return self.nodes[ident]
-
-    def start_all(self, conf="conf"):
-        for ident in IDS:
-            self.start(ident, conf)
-        self.nodes[1].waits_for("start: ok")
-        wait_for("all are in one view", lambda: all(self.members(ident) == list(IDS) for ident in IDS))
-        time.sleep(4 * LOOP)
-
-    def status_of(self, ident):
-        return self.folder / ("status.%d" % ident)
-
-    def shown(self, ident):
-        path = self.status_of(ident)
-        return json.loads(path.read_text()) if path.exists() else {}
-
-    def members(self, ident):
-        return (self.shown(ident).get("view") or {}).get("members")
-
-    def down(self, ident):
-        """The network that the status file of a node says is down, of each other node by its id."""
-        return {peer["id"]: peer.get("network_down") for peer in self.shown(ident)["peers"]}
-
-    def views(self):
-        return {ident: len(node.events("view")) for ident, node in self.nodes.items()}
-
-    def changes(self, ident):
-        """What a node said of networks: the event, the network and the other node, sorted."""
-        return sorted((event["event"], int(event["network"]), int(event["id"])) for event in self.nodes[ident].events(*SAID))
-
-    def did(self):
-        """What each node that runs did since its opening. That a feed came too late says that the machine had other work."""
-        return [[done for done in map(done_of, node.events()) if done][1:] for node in self.nodes.values() if node.runs()]
-
-    def goes_on(self, what, views):
-        """Nobody was reset, the holder goes on, and there was no view since."""
-        same("they did: " + what, self.did(), [["start: ok"], [], []])
-        same("views: " + what, self.views(), views)
 
 
 def others(ident):
@@ -173,8 +98,40 @@ def network_1_is_out_of_order():
     disturbed("o1", 1, 0.0, 0.5)
 
 
+def network_0_comes_and_goes():
+    comes_and_goes("g0", 0, max(2, int(SECONDS / (9 * LOOP))))
+
+
 def network_1_comes_and_goes():
     comes_and_goes("g1", 1, max(2, int(SECONDS / (9 * LOOP))))
+
+
+def verdict(cluster, idents):
+    """What `quorumctl status` says over the status files of these nodes: its status and its first line."""
+    files = [str(cluster.status_of(ident)) for ident in idents]
+    done = subprocess.run([os.environ["QUORUMCTL"], "status", *files], stdout=subprocess.PIPE, check=False, text=True)
+    return done.returncode, done.stdout.splitlines()[0]
+
+
+def one_cable_is_pulled():
+    """That of node 3 on network 1: the two others do not reach it there, and it reaches neither of them."""
+    cluster = TwoNetworks("p")
+    cluster.start_all()
+    views, relay = cluster.views(), cluster.relays[1]
+    same("whole", verdict(cluster, IDS), (0, "quorumd healthy: 1 holds (no group)"))
+    relay.cut = {relay.ports[2]}
+    down = {1: {2: None, 3: 1}, 2: {1: None, 3: 1}, 3: {1: 1, 2: 1}}
+    for ident in IDS:
+        wait_for("node %d says what is down" % ident, lambda ident=ident: cluster.down(ident) == down[ident])
+    for idents, said in ((IDS, "to 3 is down"), ((1,), "to 3 is down"), ((3,), "is down")):
+        wait_for("the verdict of %r" % (idents,), lambda idents=idents, said=said: verdict(cluster, idents) == (1, "quorumd degraded: 1 holds; network 1 " + said))
+    relay.cut = set()
+    for ident in IDS:
+        wait_for("node %d says that network 1 is back" % ident, lambda ident=ident: set(cluster.down(ident).values()) == {None})
+    time.sleep(4 * LOOP)
+    cluster.goes_on("the cable is back", views)
+    lost = {ident: sorted((name, 1, other) for name in SAID for other in others(ident) if 3 in (ident, other)) for ident in IDS}
+    same("changes", {ident: cluster.changes(ident) for ident in IDS}, lost)
 
 
 def both_are_cut():
@@ -253,6 +210,6 @@ if not in_namespace("ip link set lo up && ip link add name one type veth && unsh
     print("skipped: no network namespaces: nodes on two networks")
     sys.exit(0)
 SCENES = (network_0_is_cut, network_1_is_cut, network_0_of_two_families_is_cut, network_0_is_slow, network_1_is_slow, network_0_is_out_of_order,
-          network_1_is_out_of_order, network_1_comes_and_goes, both_are_cut, boots_with_one_network, at_rest, from_one_to_two_and_back)
+          network_1_is_out_of_order, network_0_comes_and_goes, network_1_comes_and_goes, one_cable_is_pulled, both_are_cut, boots_with_one_network, at_rest, from_one_to_two_and_back)
 live.ALL += SECONDS - 24
 try_all(*[scene for scene in SCENES if len(sys.argv) < 2 or scene.__name__ in sys.argv])

@@ -88,7 +88,7 @@ impl fmt::Display for Refusal {
             Refusal::Unnamed => "a node of its view runs a program that knows no moves",
             Refusal::UnderWay => "a move to it is under way; quorumctl move --off ends that",
             Refusal::Missing => {
-                "a node is neither in the view nor has left: it would be reset once more, and the service would wait for that; stop it there, or --yes does it"
+                "a node is neither in the view nor has left: it would be reset once more, and the service would wait for that; stop it there, or --yes does it:"
             }
         })
     }

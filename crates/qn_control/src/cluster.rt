@@ -5,10 +5,14 @@ use qn_model::Phase;
 use qn_names::phase_name;
 use qn_shown::{Group, Peer, Shown};
 use qn_verdict::{
-    Verdict, Voice, has_voice, is_answered, is_contested, is_heard, is_held, is_held_twice,
-    is_live, is_quiet, judge, members, told_voice, voice_of,
+    Verdict, Voice, has_voice, is_answered, is_contested, is_cut_off, is_down_between, is_heard,
+    is_held, is_held_twice, is_live, is_network_down, is_quiet, judge, members, told_voice,
+    voice_of,
 };
 use std::alloc::{AllocError, Global};
+
+/// How many networks there are at most.
+const NETWORKS: u64 = 2;
 
 /// The status files of a cluster, at a moment of their host.
 #[derive(Drop)]
@@ -51,6 +55,7 @@ impl ClusterStatus {
     /// The reason of the verdict, in one line without its end; empty where nothing more is to be said.
     pub fn reason(&self, alloc: Global) -> Result<String, AllocError> {
         let voices = self.voices(alloc)?;
+        let known = self.known(alloc)?;
         let mut words = Words {
             cluster: self,
             text: Text::new(alloc),
@@ -66,12 +71,17 @@ impl ClusterStatus {
             Verdict::Degraded if is_held(self.now, self.nodes.as_slice()) => {
                 let silent = self.silent(alloc, Silent::Heard)?;
                 words.add_holder(voices.as_slice(), silent.as_slice());
+                words.add_networks(known.as_slice());
             }
             Verdict::Degraded => {
                 let silent = self.silent(alloc, Silent::MayHold)?;
                 words.add_owner_unknown(voices.as_slice(), silent.as_slice());
+                words.add_networks(known.as_slice());
             }
-            Verdict::NoOwner => words.add_wrongs(voices.as_slice()),
+            Verdict::NoOwner => {
+                words.add_wrongs(voices.as_slice());
+                words.add_networks(known.as_slice());
+            }
         }
         words.text.finish()
     }
@@ -110,6 +120,19 @@ impl ClusterStatus {
         Ok(())
     }
 
+    /// Each node that is named as one or as a peer of one, in ascending id.
+    fn known(&self, alloc: Global) -> Result<Vec<NodeId>, AllocError> {
+        let mut ids = Vec::new(alloc);
+        for node in self.nodes.as_slice() {
+            add_id(&mut ids, node.id)?;
+            for peer in node.peers.as_slice() {
+                add_id(&mut ids, peer.id)?;
+            }
+        }
+        ids.as_mut_slice().sort_unstable_by_key(|id| id.0);
+        Ok(ids)
+    }
+
     /// The nodes of that kind that have no file here and told nothing to the node that knows them, in ascending id.
     fn silent(&self, alloc: Global, kind: Silent) -> Result<Vec<NodeId>, AllocError> {
         let mut ids = Vec::new(alloc);
@@ -131,9 +154,8 @@ impl ClusterStatus {
     ) -> Result<(), AllocError> {
         for peer in node.peers.as_slice() {
             let has_voice = has_voice(self.now, self.nodes.as_slice(), node, peer.id);
-            let is_there = ids.as_slice().iter().any(|id| id.0 == peer.id.0);
-            if !has_voice && !is_there && kind.is_of(self.now, node, peer) {
-                ids.push(peer.id)?;
+            if !has_voice && kind.is_of(self.now, node, peer) {
+                add_id(ids, peer.id)?;
             }
         }
         Ok(())
@@ -174,6 +196,14 @@ fn add_voice(voices: &mut Vec<Voice>, voice: Voice) -> Result<(), AllocError> {
         return Ok(());
     }
     voices.push(voice)?;
+    Ok(())
+}
+
+/// Adds an id that is not there.
+fn add_id(ids: &mut Vec<NodeId>, id: NodeId) -> Result<(), AllocError> {
+    if !ids.as_slice().iter().any(|other| other.0 == id.0) {
+        ids.push(id)?;
+    }
     Ok(())
 }
 
@@ -372,21 +402,12 @@ impl<'a> Words<'a> {
         }
     }
 
-    /// What a node lost of its images, its networks and its arbiter.
+    /// What a node lost of its images and its arbiter.
     fn add_lost(&mut self, node: &Shown) {
         if let Some(images) = node.images {
             self.begin_node(node.id);
             self.text.add_number(" runs on ", images);
             self.text.add(" of 3 images");
-        }
-        for peer in node.peers.as_slice() {
-            if let Some(network) = peer.network_down {
-                self.begin();
-                self.text.add_number("network ", network);
-                self.text.add(" to ");
-                self.add_node(peer.id);
-                self.text.add(" is down");
-            }
         }
         if let Some(arbiter) = &node.arbiter {
             if !is_answered(node, arbiter) {
@@ -396,6 +417,83 @@ impl<'a> Words<'a> {
                 self.text.add(" s");
                 add_refused(&mut self.text, arbiter.refused);
             }
+        }
+    }
+
+    /// Which of the two networks is down, and where among these nodes.
+    fn add_networks(&mut self, nodes: &[NodeId]) {
+        for network in 0..NETWORKS {
+            if is_network_down(self.cluster.now, self.cluster.nodes.as_slice(), network) {
+                self.begin();
+                self.text.add_number("network ", network);
+                self.text.add(" is down");
+            } else {
+                self.add_cut_off(network, nodes);
+                self.add_pairs(network, nodes);
+            }
+        }
+    }
+
+    /// The nodes that a network does not reach at all, in one part.
+    fn add_cut_off(&mut self, network: u64, nodes: &[NodeId]) {
+        let mut list = Listed::new(network, " to ");
+        for id in nodes {
+            if self.is_cut_off(network, *id) {
+                self.add_listed(&mut list);
+                self.add_node(*id);
+            }
+        }
+        self.end_listed(&list);
+    }
+
+    /// The pairs of other nodes between which a network is down, in one part.
+    fn add_pairs(&mut self, network: u64, nodes: &[NodeId]) {
+        let mut list = Listed::new(network, " between ");
+        for (place, id) in nodes.iter().enumerate() {
+            for other in nodes.iter().skip(place + 1) {
+                if self.is_pair_down(network, *id, *other) {
+                    self.add_listed(&mut list);
+                    self.add_node(*id);
+                    self.text.add(" and ");
+                    self.add_node(*other);
+                }
+            }
+        }
+        self.end_listed(&list);
+    }
+
+    fn is_cut_off(&self, network: u64, id: NodeId) -> bool {
+        is_cut_off(self.cluster.now, self.cluster.nodes.as_slice(), network, id)
+    }
+
+    /// Whether a network is down between two nodes of which it reaches each somewhere.
+    fn is_pair_down(&self, network: u64, id: NodeId, other: NodeId) -> bool {
+        is_down_between(
+            self.cluster.now,
+            self.cluster.nodes.as_slice(),
+            network,
+            id,
+            other,
+        ) && !self.is_cut_off(network, id)
+            && !self.is_cut_off(network, other)
+    }
+
+    /// Adds what stands before the next one of a list.
+    fn add_listed(&mut self, list: &mut Listed) {
+        if list.is_empty {
+            self.begin();
+            self.text.add_number("network ", list.network);
+            self.text.add(list.before);
+            list.is_empty = false;
+        } else {
+            self.text.add(", ");
+        }
+    }
+
+    /// Ends a list, where it has begun.
+    fn end_listed(&mut self, list: &Listed) {
+        if !list.is_empty {
+            self.text.add(" is down");
         }
     }
 
@@ -415,6 +513,24 @@ impl<'a> Words<'a> {
                 self.text.add_seconds(self.cluster.age(node));
                 self.text.add(" s");
             }
+        }
+    }
+}
+
+/// A part of a line that lists where a network is down.
+struct Listed {
+    network: u64,
+    /// What stands before the first one.
+    before: &'static str,
+    is_empty: bool,
+}
+
+impl Listed {
+    fn new(network: u64, before: &'static str) -> Listed {
+        Listed {
+            network,
+            before,
+            is_empty: true,
         }
     }
 }

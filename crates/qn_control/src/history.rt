@@ -2,6 +2,7 @@
 use crate::journal_line::JournalLine;
 use crate::text::Text;
 use jiff::Timestamp;
+use qn_event::{EventName, read_value};
 use std::alloc::{AllocError, Global};
 
 /// The events of several journals. Within one journal those of a node stay in its order, also where the clock of its host was set
@@ -105,46 +106,75 @@ fn sentence_of(line: &JournalLine<'_>) -> Option<&'static str> {
     None
 }
 
-/// What may be told of an event; the words in braces are those of its line. The end of a node that halted is told by its halt.
+/// What may be told of an event. The end of a node that halted is told by its halt, and a start or a stop by what follows it, unless it failed.
 fn sentences_of(line: &JournalLine<'_>) -> &'static [&'static str] {
-    match line.event {
-        "claimed" => &[
+    match EventName::of_word(line.event) {
+        Some(EventName::Start | EventName::Stop) if !has_failed(line) => &[],
+        Some(EventName::End) if is_end_of_halt(line) => &[],
+        Some(name) => sentences(name),
+        None => &[],
+    }
+}
+
+/// What may be told of an event of that name; the words in braces are those of its line.
+fn sentences(name: EventName) -> &'static [&'static str] {
+    match name {
+        EventName::Claimed => &[
             "node {node} ({name}) booted as incarnation {incarnation}",
             "node {node} booted as incarnation {incarnation}",
         ],
-        "quorum-won" => &["node {node} has a quorum: {votes}/{quorum}"],
-        "quorum-lost" => &["node {node} lost its quorum: {votes}/{quorum}"],
-        "peer-seen" => &[
+        EventName::QuorumWon => &["node {node} has a quorum: {votes}/{quorum}"],
+        EventName::QuorumLost => &["node {node} lost its quorum: {votes}/{quorum}"],
+        EventName::PeerSeen => &[
             "node {node} hears node {id} ({name})",
             "node {node} hears node {id}",
         ],
-        "peer-lost" => &[
+        EventName::PeerLost => &[
             "node {node} hears node {id} ({name}) no more",
             "node {node} hears node {id} no more",
         ],
-        "device" => &["the arbiter answered node {node} {answer} in view {view}"],
-        "device-silent" => &["node {node} hears nothing of its arbiter, for {age} ms"],
-        "image-lost" => &["node {node} lost image {image}"],
-        "image-back" => &["node {node} has image {image} again"],
-        "fence-written" => &[
+        EventName::Device => &["the arbiter answered node {node} {answer} in view {view}"],
+        EventName::DeviceSilent => &["node {node} hears nothing of its arbiter, for {age} ms"],
+        EventName::ImageLost => &["node {node} lost image {image}"],
+        EventName::ImageBack => &["node {node} has image {image} again"],
+        EventName::FenceWritten => &[
             "node {node} fenced node {of} ({name}): reset written, ok={ok}, msgwait {msgwait} ms",
             "node {node} fenced node {of}: reset written, ok={ok}, msgwait {msgwait} ms",
         ],
-        "licence" => &[
+        EventName::Licence => &[
             "node {node} read node {of} ({name}) as cleanly stopped",
             "node {node} read node {of} as cleanly stopped",
         ],
-        "hold-won" => &["node {node} holds the resource"],
-        "hold-lost" => &["node {node} holds it no more"],
-        "start" if has_failed(line) => &["node {node} failed to start the resource"],
-        "stop" if has_failed(line) => &["node {node} failed to stop the resource"],
-        "mail" => &[
+        EventName::HoldWon => &["node {node} holds the resource"],
+        EventName::HoldLost => &["node {node} holds it no more"],
+        EventName::Start => &["node {node} failed to start the resource"],
+        EventName::Stop => &["node {node} failed to stop the resource"],
+        EventName::Mail => &[
             "node {node} read {message} from {by} (incarnation {by-incarnation})",
             "node {node} read {message} from {by}",
         ],
-        "halt" => &["node {node} ended: {cause}"],
-        "end" if !is_end_of_halt(line) => &["node {node} ended: {end}"],
-        _ => &[],
+        EventName::Halt => &["node {node} ended: {cause}"],
+        EventName::End => &["node {node} ended: {end}"],
+        EventName::Open
+        | EventName::Phase
+        | EventName::View
+        | EventName::Released
+        | EventName::Why
+        | EventName::FenceAsked
+        | EventName::StartAsked
+        | EventName::StopAsked
+        | EventName::Disarm
+        | EventName::MailDamaged
+        | EventName::MailFailed
+        | EventName::NetworkLost
+        | EventName::NetworkBack
+        | EventName::Standing
+        | EventName::StandingRefused
+        | EventName::Feed
+        | EventName::PacketsRefused
+        | EventName::LinesDropped
+        | EventName::ArbiterOpen
+        | EventName::Vote => &[],
     }
 }
 
@@ -178,9 +208,17 @@ fn add_sentence(text: &mut Text, sentence: &str, line: &JournalLine<'_>) {
         if key == "node" {
             text.add_number("", line.node);
         } else {
-            text.add_foreign(line.word(key).unwrap_or(""));
+            add_said(text, line.word(key).unwrap_or(""));
         }
         text.add(after);
+    }
+}
+
+/// Adds what a value says. One that says nothing is added as it stands.
+fn add_said(text: &mut Text, value: &str) {
+    match read_value(value.as_bytes()) {
+        Some(said) => text.add_foreign(str::from_utf8(said.as_slice()).unwrap_or(value)),
+        None => text.add_foreign(value),
     }
 }
 

@@ -1,2 +1,3 @@
 pub mod PlainWords
+mod ValueSteps
 mod ValuesBack

@@ -1,12 +1,12 @@
 -- A value is read back.
-use Rattle.std.proofs.Common.{◌≡◌, ◌≤◌, ◌<◌, ◌+◌, ◌-◌, ◌*◌, ◌/◌, ◌%◌, ◌==◌, ℕ, Bool, true, false, List, [], ◌∷◌, ◌++◌, Option, Some, None, option_and_then, refl, sym, ap, ◌∙◌, arith, nat_le, if◌then◌else◌}
+use Rattle.std.proofs.Common.{◌≡◌, ◌≤◌, ◌<◌, ◌+◌, ◌-◌, ◌*◌, ◌/◌, ◌%◌, ◌==◌, ℕ, Bool, true, false, List, [], ◌∷◌, ◌++◌, Option, Some, None, option_and_then, option_map, refl, sym, ap, ◌∙◌, arith, nat_le, if◌then◌else◌}
 use Rattle.std.specs.Prelude.{All}
 use Rattle.std.proofs.lemmas.Bool.Decides.{nat_tests}
 use Rattle.std.proofs.lemmas.List.Elements.{All-head, All-tail}
 use Rattle.qn_event.specs.EventTexts.{escape_of, hex_digit, is_value_byte}
-use Rattle.qn_event.specs.ValuesRead.{byte_before, byte_of_digits, digit_value, value_in, value_text}
+use Rattle.qn_event.specs.ValuesRead.{byte_before, byte_of, byte_of_digits, digit_value, value_in, value_text}
 
-digit_back : (digit : ℕ) → digit < 16 → digit_value (hex_digit digit) ≡ digit
+digit_back : (digit : ℕ) → digit < 16 → digit_value (hex_digit digit) ≡ Some digit
 digit_back digit small = grind (arith, nat_tests)
 
 no_sign : (digit : ℕ) → (hex_digit digit == 37) ≡ false
@@ -38,10 +38,10 @@ escape_back byte rest read small known = by_kind (is_value_byte byte) refl
         let high_read = ap (option_and_then (byte_before (hex_digit high))) low_read ∙ digit_before high (hex_digit low ∷ read) in
         let high_small : high < 16 = omega (arith, small) in
         let low_small : low < 16 = omega arith in
-        let value : 16 * digit_value (hex_digit high) + digit_value (hex_digit low) ≡ byte =
-        ap (λ n. 16 * n + digit_value (hex_digit low)) (digit_back high high_small)
-        ∙ ap (λ n. 16 * high + n) (digit_back low low_small) ∙ halves byte in
-        ap (option_and_then (byte_before 37)) high_read ∙ ap (λ n. Some (n ∷ read)) value
+        let value : byte_of (hex_digit high) (hex_digit low) ≡ Some byte =
+        ap (option_and_then (λ first. option_map (λ second. 16 * first + second) (digit_value (hex_digit low)))) (digit_back high high_small)
+        ∙ ap (option_map (λ second. 16 * high + second)) (digit_back low low_small) ∙ ap (λ n. Some n) (halves byte) in
+        ap (option_and_then (byte_before 37)) high_read ∙ ap (option_map (λ n. n ∷ read)) value
 
 pub value_back : (value : List ℕ) → All (λ byte. byte < 256) value → value_in (value_text value) ≡ Some value
 value_back [] small = refl

@@ -1,4 +1,5 @@
 pub mod EventLines
+pub mod EventNames
 pub mod EventTexts
 pub mod EventWords
 pub mod ValuesRead

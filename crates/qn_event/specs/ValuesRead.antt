@@ -1,5 +1,5 @@
 -- What a value of a line says, read from the right (this project's profile).
-use Rattle.std.specs.Prelude.{ℕ, ◌+◌, ◌-◌, ◌*◌, ◌==◌, List, [], ◌∷◌, ◌++◌, Option, Some, None, option_and_then, nat_le, if◌then◌else◌}
+use Rattle.std.specs.Prelude.{ℕ, ◌+◌, ◌-◌, ◌*◌, ◌==◌, ◌&&◌, List, [], ◌∷◌, ◌++◌, Option, Some, None, option_and_then, option_map, nat_le, if◌then◌else◌}
 use Rattle.qn_event.specs.EventTexts.{escape_of}
 
 -- a text as a value says it, where it has room
@@ -8,14 +8,20 @@ value_text [] = []
 value_text (byte ∷ rest) = escape_of byte ++ value_text rest
 
 -- the number of a digit
-abbrev pub digit_value : ℕ → ℕ
-digit_value digit = if nat_le digit 57 then digit - 48 else digit - 55
+abbrev pub digit_value : ℕ → Option ℕ
+digit_value digit =
+    if nat_le 48 digit && nat_le digit 57 then Some (digit - 48)
+    else if nat_le 65 digit && nat_le digit 70 then Some (digit - 55) else None
+
+-- the byte of two digits
+abbrev pub byte_of : ℕ → ℕ → Option ℕ
+byte_of high low = option_and_then (λ first. option_map (λ second. 16 * first + second) (digit_value low)) (digit_value high)
 
 -- the byte whose two digits begin what is to the right of a %
 abbrev pub byte_of_digits : List ℕ → Option (List ℕ)
 byte_of_digits [] = None
 byte_of_digits (high ∷ []) = None
-byte_of_digits (high ∷ low ∷ rest) = Some ((16 * digit_value high + digit_value low) ∷ rest)
+byte_of_digits (high ∷ low ∷ rest) = option_map (λ byte. byte ∷ rest) (byte_of high low)
 
 -- a byte before what was read to the right of it
 abbrev pub byte_before : ℕ → List ℕ → Option (List ℕ)

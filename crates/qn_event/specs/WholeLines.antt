@@ -2,8 +2,10 @@
 use Rattle.std.specs.Prelude.{ℕ, Bool, List, [], ◌∷◌, length, decimal}
 use Rattle.qn_base.specs.Text.{yes_no}
 use Rattle.qn_event.specs.EventLines.{head_of}
+use Rattle.qn_event.specs.EventNames.{event_word}
 use Rattle.qn_event.specs.EventTexts.{EventText}
 use Rattle.qn_event.specs.EventWords.{with_text, with_word}
+use Rattle.qn_event.specs.declared.event_name.EventName.{EventName}
 use Rattle.qn_event.specs.declared.level.Level.{Level}
 use Rattle.qn_event.specs.declared.moment.Moment.{Moment}
 
@@ -28,9 +30,9 @@ with_words line [] = line
 with_words line (word ∷ words) = with_words (with_word line word.key word.value word.most) words
 
 -- a line of that level, said at that time: its beginning, the name of what happened, and the words of it
-abbrev pub line : Moment → Level → List ℕ → List Word → EventText
+abbrev pub line : Moment → Level → EventName → List Word → EventText
 line at level name words = record {
   level = level;
   head = head_of at level;
-  words = with_words (with_text [] (length name) name) words;
+  words = with_words (with_text [] (length (event_word name)) (event_word name)) words;
 }

@@ -4,6 +4,7 @@ ghost use Rattle.qn_base.specs.Text.{yes_no};
 ghost use Rattle.qn_event.specs.EventTexts.{IsLineByte, escape_of, hex_digit, is_value_byte};
 ghost use Rattle.qn_event.specs.EventWords.{Stands, quoted_of, room_for, with_byte, with_key, with_plain_word, with_quoted, with_quoted_text, with_text, with_word};
 
+use crate::event_name::EventName;
 use crate::level::Level;
 use crate::moment::{EVENT_HEAD, Moment};
 use arrayvec::ArrayVec;
@@ -33,19 +34,21 @@ impl Model for EventLine {
 
 impl EventLine {
     ghost use Rattle.qn_event.specs.EventLines.{head_of};
+    ghost use Rattle.qn_event.specs.EventNames.{event_word};
 
     /// A line of that event and that level, with no words yet.
-    pub fn new(at: Moment, level: Level, event: &[u8]) -> EventLine
+    pub fn new(at: Moment, level: Level, event: EventName) -> EventLine
         ensures begins { result.head ≡ head_of at level }
         ensures level { result.level ≡ level }
-        ensures event { result.words ≡ with_text [] (length event.now) event.now }
+        ensures event { result.words ≡ with_text [] (length (event_word event)) (event_word event) }
     {
+        let word = event.word().as_bytes();
         let mut line = EventLine {
             level,
             head: at.head(level),
             words: ArrayVec::new(),
         };
-        line.escape(event, event.len());
+        line.escape(word, word.len());
         line
     }
 

@@ -6,11 +6,15 @@
 #![tactic(auto)]
 
 mod event_line;
+mod event_name;
 mod laws;
 mod level;
 mod moment;
+mod value;
 
 pub use event_line::EventLine;
-pub use laws::law_value_read_back;
+pub use event_name::EventName;
+pub use laws::{law_event_names_read_back, law_value_read_back};
 pub use level::Level;
 pub use moment::Moment;
+pub use value::read_value;

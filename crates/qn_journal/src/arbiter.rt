@@ -1,7 +1,7 @@
 //! What is told of an arbiter that runs: its lines, and its status as one object of JSON, with its keys in alphabetical order.
 use crate::text::Text;
 use qn_base::{Mask, Rank};
-use qn_event::{EventLine, Level, Moment};
+use qn_event::{EventLine, EventName, Level, Moment};
 use qn_model::Nodes;
 use qn_safety::{Lease, Poll};
 
@@ -59,7 +59,7 @@ impl ArbiterNews {
     /// It boots at that tick: the line that says so.
     pub(crate) fn boot(&mut self, at: Moment, tick: u64) -> EventLine {
         self.booted = tick;
-        let mut line = EventLine::new(at, Level::Notice, b"arbiter-open");
+        let mut line = EventLine::new(at, Level::Notice, EventName::ArbiterOpen);
         line.number(b"lease", self.times.lease);
         line.number(b"limit", self.times.limit);
         line
@@ -98,7 +98,7 @@ impl ArbiterNews {
     }
 
     fn vote_line(&self, at: Moment, poll: &Poll, agrees: bool) -> EventLine {
-        let mut line = EventLine::new(at, Level::Notice, b"vote");
+        let mut line = EventLine::new(at, Level::Notice, EventName::Vote);
         line.number(b"id", self.id_of(usize::from(poll.from.0)));
         line.truth(b"answer", agrees);
         let mut view = Text::new();

@@ -2,17 +2,11 @@
 ghost use Rattle.qn_io.specs.Receives.{FitsPacket};
 
 use crate::arbiter::ArbiterNews;
-use crate::device::DeviceNews;
 use crate::ending::end_text;
-use crate::entered::Entered;
 use crate::group_file::group_of_file;
-use crate::images::{IMAGE, Images};
 use crate::mail::{MailNews, MailState, Mailbox};
 use crate::node_names::NodeNames;
-use crate::peers::Peers;
-use crate::seldom::Seldom;
 use crate::status_text::{Counts, NAMES, Shown, status_text};
-use crate::telling::Telling;
 use qn_base::Rank;
 use qn_event::{EventLine, Moment};
 use qn_io::Got;
@@ -20,10 +14,11 @@ use qn_leases::ArbiterNotices;
 use qn_live::{Asked, Given, LiveEnd, NodeRun, Notices, Room, Standing};
 use qn_machine::{Lines, ReplacedFile};
 use qn_model::{MailSeen, Packet, Phase, Settings};
+use qn_news::{DeviceNews, Entered, IMAGE, Images, Peers, Seldom, Telling};
 use qn_notice::{Event, Observer};
 use qn_polls::get_reply;
 use qn_safety::{Lease, Poll};
-use qn_sector::{get_mail, mail_sector};
+use qn_sector::{get_header, get_mail, mail_sector};
 use qn_told::{
     device_answered, device_silent, ended, event_line, feeds_failed, image_back, image_lost,
     mail_damaged, mail_failed, mail_told, network_back, network_lost, packets_refused, peer_lost,
@@ -105,8 +100,8 @@ impl<'a, R: Files<File = File> + Clock + Eprint> Journal<'a, R> {
             telling: Telling::new(),
             observer: Observer::new(),
             arbiter: ArbiterNews::new(),
-            device: DeviceNews::default(),
-            images: Images::default(),
+            device: DeviceNews::new(),
+            images: Images::new(),
             msgwait: 0,
             mailbox: Mailbox::new(),
             peers: Peers::new(),
@@ -156,10 +151,27 @@ impl<'a, R: Files<File = File> + Clock + Eprint> Journal<'a, R> {
         if let Some(path) = self.group {
             self.telling.group = group_of_file(self.rt, path, tick);
         }
-        if let Some(told) = self.telling.telling(tick, &standing) {
+        self.tell_standing(tick, &standing, false, run);
+    }
+
+    /// Has the others told how this node is, with the next packet at the latest.
+    fn tell_standing(&mut self, tick: u64, standing: &Standing, has_left: bool, run: &NodeRun) {
+        let is_leaving = has_left || matches!(standing.phase, Phase::Leaving);
+        let quorate = standing.answer.quorate;
+        let told = self
+            .telling
+            .telling(tick, standing.incarnation, is_leaving, quorate);
+        if let Some(told) = told {
             let nodes = run.settings().nodes.len().min(NODES);
             self.lines.voices().tell(told, nodes as u8);
         }
+    }
+
+    /// Has the others told that this node has left, before its farewell: one that does not hold may come to its end within one turn.
+    fn tell_leave(&mut self, tick: u64, run: &NodeRun) {
+        let standing = shown_standing(run);
+        self.telling.is_due(tick, run.loop_ms(), standing.holds);
+        self.tell_standing(tick, &standing, true, run);
     }
 
     /// Tells of a node that is heard now.
@@ -268,9 +280,14 @@ impl<'a, R: Files<File = File> + Clock + Eprint> Journal<'a, R> {
     /// A sector was read, and has these bytes.
     fn look(&mut self, sector: u32, room: &Room, run: &NodeRun) {
         let me = run.rank();
-        if me.0 < 32 && sector % IMAGE == mail_sector(me) {
-            let image = (sector / IMAGE) as usize;
-            self.mailbox.read(image, get_mail(&room.sector));
+        let image = (sector / IMAGE) as usize;
+        if sector % IMAGE == 0 {
+            self.images
+                .header(image, get_header(&room.sector).is_some());
+        } else if me.0 < 32 && sector % IMAGE == mail_sector(me) {
+            let mail = get_mail(&room.sector);
+            self.images.mailbox(image, mail.is_some());
+            self.mailbox.read(image, mail);
         }
     }
 
@@ -469,7 +486,10 @@ impl<'a, R: Files<File = File> + Clock + Eprint> Notices for Journal<'a, R> {
             Asked::Send { to } => if to == ARBITER && given.ok {
                 self.device.poll(run.tick());
             },
-            Asked::Now | Asked::Start | Asked::Stop | Asked::Disarm | Asked::Halt { .. } => {}
+            Asked::Disarm => if given.ok {
+                self.tell_leave(given.tick, run);
+            },
+            Asked::Now | Asked::Start | Asked::Stop | Asked::Halt { .. } => {}
         }
     }
 

@@ -1,9 +1,6 @@
 //! The status of a running node as one object of JSON, with its keys in alphabetical order.
-use crate::device::DeviceNews;
 use crate::mail::{MailState, Mailbox};
 use crate::node_names::NodeNames;
-use crate::peers::Peers;
-use crate::telling::Telling;
 use crate::text::Text;
 use arrayvec::ArrayVec;
 use qn_base::{Mask, Rank, View};
@@ -12,6 +9,7 @@ use qn_live::Standing;
 use qn_machine::Voices;
 use qn_model::{Nodes, Phase};
 use qn_names::{phase_name, write_why};
+use qn_news::{DeviceNews, Peers, Telling};
 use qn_shown::{Group, Heard, HostStanding};
 
 /// The high byte of a view's number names who may start: a number below this one names nobody in particular.
@@ -67,15 +65,7 @@ pub(crate) fn status_text(shown: &Shown<'_>) -> Text {
 
 fn add_arbiter_to_loop(text: &mut Text, shown: &Shown<'_>) {
     text.add(b"{");
-    let voices = shown.voices;
-    let refused = voices.refused(ARBITER);
-    shown.device.add_to(
-        text,
-        shown.at.tick,
-        shown.timeout,
-        voices.arbiter(),
-        refused,
-    );
+    add_arbiter(text, shown);
     text.add(b"\"dropped\":");
     text.number(shown.counts.dropped);
     text.add(b",\"end\":");
@@ -109,6 +99,32 @@ fn add_arbiter_to_loop(text: &mut Text, shown: &Shown<'_>) {
     text.number(shown.counts.late);
     text.add(b",\"loop\":");
     text.number(shown.loop_ms);
+}
+
+/// What the node heard of its arbiter, and where that is; nothing of a node that polled none.
+fn add_arbiter(text: &mut Text, shown: &Shown<'_>) {
+    let (device, tick) = (shown.device, shown.at.tick);
+    let Some(age) = device.age(tick) else {
+        return;
+    };
+    text.add(b"\"arbiter\":{\"address\":");
+    match shown.voices.arbiter() {
+        Some(at) => text.address(at),
+        None => text.add(b"null"),
+    }
+    text.add(b",\"age\":");
+    text.number(age);
+    text.add(b",\"answer\":\"");
+    text.add(device.answer(tick, shown.timeout).name().as_bytes());
+    text.add(b"\",\"no\":");
+    text.number(device.no());
+    text.add(b",\"polls\":");
+    text.number(device.polls());
+    text.add(b",\"refused\":");
+    text.number(shown.voices.refused(ARBITER));
+    text.add(b",\"yes\":");
+    text.number(device.yes());
+    text.add(b"},");
 }
 
 /// How the group is: nothing where there is none, null where nothing looks after it.

@@ -2,6 +2,7 @@
 use Rattle.std.specs.Prelude.{ℕ, Bool, List, [], ◌∷◌, ◌+◌, ◌-◌, ◌%◌, ◌^◌, codes, min, if◌then◌else◌}
 use Rattle.qn_event.specs.EventTexts.{EventText}
 use Rattle.qn_event.specs.WholeLines.{Word, line, number, truth}
+use Rattle.qn_event.specs.declared.event_name.EventName.TheVariants as name
 use Rattle.qn_event.specs.declared.level.Level.TheVariants.{Error, Warning, Notice}
 use Rattle.qn_event.specs.declared.moment.Moment.{Moment}
 use Rattle.qn_io.specs.declared.calls.Opening.{Opening}
@@ -17,7 +18,7 @@ path key value = record { key = key; value = value; most = 100 }
 -- what a node opens, and whether all of it was opened. It listens at the first port of the cluster and its rank together
 abbrev pub opening_line : Moment → Opening → Bool → EventText
 opening_line at opening ok =
-    line at (if ok then Notice else Error) (codes "open")
+    line at (if ok then Notice else Error) name.Open
     (number (codes "port") ((opening.port + opening.rank.0) % 2 ^ 16)
     ∷ path (codes "image") opening.image.now
     ∷ path (codes "resource") opening.resource.now
@@ -32,7 +33,7 @@ all_refused refusals = min (2 ^ 64 - 1) (refusals.unsealed + refusals.astray + r
 -- how many datagrams were not handed on, and why
 abbrev pub refusals_line : Moment → Refusals → EventText
 refusals_line at refusals =
-    line at Warning (codes "packets-refused")
+    line at Warning name.PacketsRefused
     (number (codes "count") (all_refused refusals)
     ∷ number (codes "unsealed") refusals.unsealed
     ∷ number (codes "astray") refusals.astray
@@ -42,7 +43,7 @@ refusals_line at refusals =
 
 -- so many lines had no room
 abbrev pub dropped_line : Moment → ℕ → EventText
-dropped_line at count = line at Warning (codes "lines-dropped") (number (codes "count") count ∷ [])
+dropped_line at count = line at Warning name.LinesDropped (number (codes "count") count ∷ [])
 
 abbrev pub switch_word : Bool → List ℕ
 switch_word is_on = if is_on then codes "on" else codes "off"
@@ -53,7 +54,7 @@ switch key is_on = record { key = key; value = switch_word is_on; most = 3 }
 -- what the host says of its node now
 abbrev pub standing_line : Moment → HostStanding → EventText
 standing_line at said =
-    line at Notice (codes "standing")
+    line at Notice name.Standing
     (switch (codes "standby") said.standby
     ∷ truth (codes "fit") said.fit
     ∷ switch (codes "pull") said.pull
@@ -67,4 +68,4 @@ refusal_words fault.Length = record { key = codes "why"; value = codes "length";
 refusal_words fault.File = record { key = codes "why"; value = codes "file"; most = 6 } ∷ []
 
 abbrev pub refused_standing_line : Moment → StandingFault → EventText
-refused_standing_line at why = line at Warning (codes "standing-refused") (refusal_words why)
+refused_standing_line at why = line at Warning name.StandingRefused (refusal_words why)

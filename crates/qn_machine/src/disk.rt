@@ -1,5 +1,5 @@
 //! The disk of a node: one image, or three of which one may be lost.
-ghost use Rattle.std.specs.Prelude.{◌<◌};
+ghost use Rattle.std.specs.Prelude.{◌<◌, ◌≡◌, ◌↔◌, IsTrue, Some};
 
 use crate::blank::{found_at, is_zeros};
 use crate::edge::{Edge, Overwrites};
@@ -38,7 +38,26 @@ pub(crate) struct Disk {
     told: [Option<Told>; 3],
     /// Of each image whether the last write to it was done.
     wrote: [bool; 3],
+    /// Of each image whether its header is looked at before the next call: one failed, and something else may be in its place since.
+    doubted: [bool; 3],
+    /// The header of the cluster: that of the first image that has one.
+    header: Option<[u8; SECTOR]>,
+    /// By what three images are opened again.
+    again: Option<Again>,
 }
+
+/// By what those of three images that are not open are tried again.
+#[derive(Drop)]
+struct Again {
+    /// The words of the three.
+    word: String,
+    opener: Opener,
+    /// From which moment of the monotonic clock on.
+    from: Duration,
+}
+
+/// How many times as long as a try took the next one is waited for, so that a server which does not answer takes little of a node's time.
+const TRY_SHARE: u32 = 10;
 
 /// How long the same of an image is not said again, in milliseconds.
 const BETWEEN_LINES: u64 = 60_000;
@@ -56,11 +75,19 @@ impl Disk {
 
     /// A disk of which no image is open.
     pub(crate) fn closed() -> Disk {
+        Disk::of(Layout::One, [None, None, None])
+    }
+
+    /// The disk of these images, of which nothing was said.
+    fn of(layout: Layout, images: [Option<Image>; 3]) -> Disk {
         Disk {
-            layout: Layout::One,
-            images: [None, None, None],
+            layout,
+            images,
             told: [None, None, None],
             wrote: [false; 3],
+            doubted: [false; 3],
+            header: None,
+            again: None,
         }
     }
 
@@ -77,16 +104,10 @@ impl Disk {
         absent: Absent,
     ) -> Result<Disk, Failed> {
         match images {
-            1 => Ok(Disk {
-                layout: Layout::One,
-                images: [
-                    Some(open_image(rt, errors, word, opener, absent)?),
-                    None,
-                    None,
-                ],
-                told: [None, None, None],
-                wrote: [false; 3],
-            }),
+            1 => {
+                let image = open_image(rt, errors, word, opener, absent)?;
+                Ok(Disk::of(Layout::One, [Some(image), None, None]))
+            }
             3 => open_three(rt, errors, word, opener, absent),
             _ => reported(
                 errors,
@@ -104,7 +125,8 @@ impl Disk {
         }
     }
 
-    /// The least watchdog's time and the least feed delay of the headers of the images. Of three images one may be lost, or have no header.
+    /// The least watchdog's time and the least feed delay of the headers of the images. Of three images one may be lost, or have no header; where the
+    /// headers are judged, one that is not taken is closed, since it is none of the cluster's.
     pub(crate) fn edge_times<R: Files<File = File> + Net<Stream = TcpStream> + Clock, E: Eprint>(
         &mut self,
         rt: &R,
@@ -117,12 +139,19 @@ impl Disk {
         };
         let mut found: u32 = 0;
         let mut least = EdgeTimes::longest();
+        let mut header = None;
         'images: for image in &mut self.images {
-            if let Some(times) = header_times(rt, errors, edge, image) {
-                found = found.saturating_add(1);
-                least = least.least(times);
+            match header_times(rt, errors, edge, image) {
+                Some((times, of_image)) => {
+                    found = found.saturating_add(1);
+                    least = least.least(times);
+                    header = header.or(Some(of_image));
+                }
+                None if edge.absent() == Absent::Refused => *image = None,
+                None => {}
             }
         }
+        self.header = header;
         if found < wanted {
             Err(Failed)
         } else {
@@ -141,9 +170,66 @@ impl Disk {
         requires { sector < 3072 }
     {
         let (index, sector) = self.place(sector);
+        self.look_again(rt, errors, index)?;
         let image = self.images[index].as_mut().ok_or(Failed)?;
         let done = image.read(rt, sector, into);
+        self.doubted[index] = done.is_err();
         tell(rt, errors, image.name(), &mut self.told[index], done)
+    }
+
+    /// Where the last call on one of three images failed, fails where its header is not that of the cluster: a new and empty image may be in its place.
+    fn look_again<R: Files<File = File> + Net<Stream = TcpStream> + Clock, E: Eprint>(
+        &mut self,
+        rt: &R,
+        errors: &E,
+        index: usize,
+    ) -> Result<(), Failed>
+        requires { index < 3 }
+    {
+        if self.layout == Layout::One || !self.doubted[index] {
+            return Ok(());
+        }
+        let image = self.images[index].as_mut().ok_or(Failed)?;
+        let done = check_header(rt, image, &self.header);
+        tell(rt, errors, image.name(), &mut self.told[index], done)
+    }
+
+    /// Tries again to open those of three images that are not open, and have the header of the cluster.
+    pub(crate) fn open_again<
+        R: Files<File = File> + Net<Stream = TcpStream> + Clock + AllocGlobal,
+        E: Eprint,
+    >(&mut self, rt: &R, errors: &E) {
+        let Some(mut again) = self.again.take() else {
+            return;
+        };
+        if opened(&self.images) < 3 {
+            self.try_again(rt, errors, &mut again);
+        }
+        self.again = Some(again);
+    }
+
+    /// The same, where the moment has come, and sets the next one.
+    fn try_again<
+        R: Files<File = File> + Net<Stream = TcpStream> + Clock + AllocGlobal,
+        E: Eprint,
+    >(&mut self, rt: &R, errors: &E, again: &mut Again) {
+        let Ok(began) = rt.monotonic() else {
+            return;
+        };
+        if began < again.from {
+            return;
+        }
+        if let Ok((first, second, third)) = three_paths(again.word.as_str()) {
+            'images: for (index, word) in [first, second, third].iter().enumerate() {
+                if self.images[index].is_none() {
+                    let found = open_as(rt, errors, word, again.opener, &self.header);
+                    self.images[index] = kept(rt, errors, word, &mut self.told[index], found);
+                }
+            }
+        }
+        let now = rt.monotonic().unwrap_or(began);
+        let took = now.saturating_sub(began);
+        again.from = now.saturating_add(took.saturating_mul(TRY_SHARE));
     }
 
     /// Writes a sector and has it pushed to the disk. Sector 0 of an image is written only under the exclusive lock, which is
@@ -165,9 +251,11 @@ impl Disk {
             self.images[index] = open.and_then(|image| locked(rt, errors, image, from, overwrites));
         }
         self.wrote[index] = false;
+        self.look_again(rt, errors, index)?;
         let image = self.images[index].as_mut().ok_or(Failed)?;
         let done = image.write(rt, sector, from);
         self.wrote[index] = done.is_ok();
+        self.doubted[index] = done.is_err();
         tell(rt, errors, image.name(), &mut self.told[index], done)?;
         if sector == 0 {
             warn_of_feeds(errors, image.name(), from);
@@ -238,7 +326,7 @@ fn say_made<E: Eprint>(errors: &E, image: &Image) {
     }
 }
 
-/// Opens the three images of a word, of which at least two have to be there.
+/// Opens the three images of a word, of which at least two have to be there. The third is tried again later.
 fn open_three<R: Files<File = File> + Net<Stream = TcpStream> + Clock + AllocGlobal, E: Eprint>(
     rt: &R,
     errors: &E,
@@ -247,20 +335,79 @@ fn open_three<R: Files<File = File> + Net<Stream = TcpStream> + Clock + AllocGlo
     absent: Absent,
 ) -> Result<Disk, Failed> {
     let (first, second, third) = reported(errors, word, three_paths(word))?;
-    let images = [
-        open_image(rt, errors, first, opener, absent).ok(),
-        open_image(rt, errors, second, opener, absent).ok(),
-        open_image(rt, errors, third, opener, absent).ok(),
-    ];
-    if opened(&images) < 2 {
+    let kept_word = String::from_str(rt.alloc(), word).map_err(|_| Failed)?;
+    let mut disk = Disk::of(Layout::Three, [None, None, None]);
+    'images: for (index, word) in [first, second, third].iter().enumerate() {
+        let found = Image::open(rt, errors, word, opener, absent);
+        disk.images[index] = kept(rt, errors, word, &mut disk.told[index], found);
+    }
+    if opened(&disk.images) < 2 {
         return Err(Failed);
     }
-    Ok(Disk {
-        layout: Layout::Three,
-        images,
-        told: [None, None, None],
-        wrote: [false; 3],
-    })
+    disk.again = Some(Again {
+        word: kept_word,
+        opener,
+        from: Duration::ZERO,
+    });
+    Ok(disk)
+}
+
+/// The image that was opened by that word; where it was not, a line says why.
+fn kept<C: Clock, E: Eprint>(
+    clock: &C,
+    errors: &E,
+    word: &str,
+    told: &mut Option<Told>,
+    found: io::Result<Image>,
+) -> Option<Image> {
+    match found {
+        Ok(image) => {
+            say_made(errors, &image);
+            Some(image)
+        }
+        Err(error) => {
+            let _ = tell(clock, errors, word, told, Err(error));
+            None
+        }
+    }
+}
+
+/// Opens the image of that word, which is there and has this header.
+fn open_as<R: Files<File = File> + Net<Stream = TcpStream> + Clock + AllocGlobal, E: Eprint>(
+    rt: &R,
+    errors: &E,
+    word: &str,
+    opener: Opener,
+    header: &Option<[u8; SECTOR]>,
+) -> io::Result<Image> {
+    let mut image = Image::open(rt, errors, word, opener, Absent::Refused)?;
+    check_header(rt, &mut image, header)?;
+    Ok(image)
+}
+
+/// Fails where the first sector of an image is not that header.
+fn check_header<R: Files<File = File> + Net<Stream = TcpStream> + Clock>(
+    rt: &R,
+    image: &mut Image,
+    header: &Option<[u8; SECTOR]>,
+) -> io::Result<()> {
+    let mut sector = [0; SECTOR];
+    image.read(rt, 0, &mut sector)?;
+    if is_header(&sector, header) {
+        Ok(())
+    } else {
+        Err(io::Error::other("no image of this cluster: its first sector is another one"))
+    }
+}
+
+/// Whether a first sector is that header.
+fn is_header(sector: &[u8; SECTOR], header: &Option<[u8; SECTOR]>) -> bool
+    ensures { IsTrue result ↔ header.now ≡ Some sector.now }
+{
+    match header {
+        Some(header) => sector == header,
+        None => false,
+    }
 }
 
 /// The paths of a word with exactly two commas.
@@ -337,14 +484,14 @@ fn tell<C: Clock, E: Eprint>(
     reported(errors, name, Err(error))
 }
 
-/// The times of the header of an image, where it is open and has one. Where a word of a machine was said before the command the header is
-/// judged, and a line says why it is not taken.
+/// The times of the header of an image and the header itself, where it is open and has one. Where a word of a machine was said before the command
+/// the header is judged, and a line says why it is not taken.
 fn header_times<R: Files<File = File> + Net<Stream = TcpStream> + Clock, E: Eprint>(
     rt: &R,
     errors: &E,
     edge: &Edge,
     image: &mut Option<Image>,
-) -> Option<EdgeTimes> {
+) -> Option<(EdgeTimes, [u8; SECTOR])> {
     let image = image.as_mut()?;
     let mut sector = [0; SECTOR];
     let read = image.read(rt, 0, &mut sector);
@@ -353,12 +500,12 @@ fn header_times<R: Files<File = File> + Net<Stream = TcpStream> + Clock, E: Epri
         Absent::Made => {
             read.ok()?;
             let (_, timing) = get_header(&sector)?;
-            Some(EdgeTimes::of(&timing))
+            Some((EdgeTimes::of(&timing), sector))
         }
         Absent::Refused => {
             reported(errors, name, read).ok()?;
             match times_of(&sector, edge.nodes()) {
-                Ok(times) => Some(times),
+                Ok(times) => Some((times, sector)),
                 Err(fault) => {
                     let _ = eprintln!(errors; "quorumd: {name}: {fault}");
                     None

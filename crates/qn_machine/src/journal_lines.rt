@@ -4,7 +4,7 @@ ghost use Rattle.qn_machine.specs.JournalLines.{dropped_line, opening_line, refu
 ghost use Rattle.qn_event.specs.WholeLines.{with_words};
 
 use crate::standing_text::StandingFault;
-use qn_event::{EventLine, Level, Moment};
+use qn_event::{EventLine, EventName, Level, Moment};
 use qn_io::Opening;
 use qn_shown::HostStanding;
 
@@ -17,7 +17,7 @@ pub(crate) fn opening_line(at: Moment, opening: &Opening<'_>, ok: bool) -> Event
 {
     let level = if ok { Level::Notice } else { Level::Error };
     let port = opening.port.wrapping_add(u16::from(opening.rank.0));
-    let mut line = EventLine::new(at, level, b"open");
+    let mut line = EventLine::new(at, level, EventName::Open);
     line.number(b"port", u64::from(port));
     line.word(b"image", opening.image.as_bytes(), MOST_OF_A_PATH);
     line.word(b"resource", opening.resource.as_bytes(), MOST_OF_A_PATH);
@@ -30,7 +30,7 @@ pub(crate) fn opening_line(at: Moment, opening: &Opening<'_>, ok: bool) -> Event
 pub(crate) fn dropped_line(at: Moment, count: u64) -> EventLine
     ensures { result ≡ dropped_line at count }
 {
-    let mut line = EventLine::new(at, Level::Warning, b"lines-dropped");
+    let mut line = EventLine::new(at, Level::Warning, EventName::LinesDropped);
     line.number(b"count", count);
     line
 }
@@ -39,7 +39,7 @@ pub(crate) fn dropped_line(at: Moment, count: u64) -> EventLine
 pub(crate) fn standing_line(at: Moment, said: HostStanding) -> EventLine
     ensures { result ≡ standing_line at said }
 {
-    let mut line = EventLine::new(at, Level::Notice, b"standing");
+    let mut line = EventLine::new(at, Level::Notice, EventName::Standing);
     line.word(b"standby", switch_word(said.standby), 3);
     line.truth(b"fit", said.fit);
     line.word(b"pull", switch_word(said.pull), 3);
@@ -57,7 +57,7 @@ fn switch_word(is_on: bool) -> &'static [u8]
 pub(crate) fn refused_standing_line(at: Moment, fault: StandingFault) -> EventLine
     ensures { result ≡ refused_standing_line at fault }
 {
-    let mut line = EventLine::new(at, Level::Warning, b"standing-refused");
+    let mut line = EventLine::new(at, Level::Warning, EventName::StandingRefused);
     add_refusal(&mut line, fault);
     line
 }

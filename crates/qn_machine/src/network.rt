@@ -2,12 +2,10 @@
 //! else is said; and on two networks two sockets of each node, over which each packet is sent.
 ghost use Rattle.std.specs.Prelude.{◌≤◌, IfOk, IfSome};
 
-use crate::admission::{ARBITER, Admission, Reason, Sender, is_double, is_vote_of_host};
 use crate::deadline::Deadline;
 use crate::edge::{Edge, Guard};
 use crate::error_lines::Lines;
 use crate::leave_file::{LeaveFile, REQUEST};
-use crate::peers::{Destination, Peers};
 use crate::refusals::Refusals;
 use crate::sealing::Sealing;
 use crate::socket::open_socket;
@@ -18,6 +16,9 @@ use arrayvec::ArrayVec;
 use qn_base::Rank;
 use qn_io::PACKET;
 use qn_links::{ArbiterPlace, Networks};
+use qn_peers::{
+    ARBITER, Admission, Destination, Peers, Reason, Sender, is_double, is_vote_of_host,
+};
 use qn_seal::{Receiver, Refused};
 use qn_shown::{get_told, put_told};
 use std::fs::File;
@@ -202,6 +203,13 @@ impl Network {
         lines.count_refused();
         if let (Some(sender), Reason::Sealed(Refused::Unsealed)) = (sender, reason) {
             lines.voices().refuse(sender.seat());
+        }
+    }
+
+    /// Tells each other node how this one is, where that is due. A node that leaves sends its farewell after that, and receives nothing any more.
+    pub(crate) fn tell_due(&mut self, lines: &Lines) {
+        if let Some(telling) = lines.voices().take_due() {
+            self.tell(telling);
         }
     }
 

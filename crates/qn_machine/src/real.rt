@@ -261,7 +261,7 @@ impl<'a, R: Files<File = File> + Net<Stream = TcpStream> + Clock + Eprint + Allo
 
     /// Opens the port, the images, the resource, which is stopped, the file for halts and the watchdog, in this order. Where one of
     /// them fails the others are closed, and those after it are not touched. Of three images one may fail, which is
-    /// counted, and each later call on it fails. Of an arbiter, which has no image, the port alone is opened.
+    /// counted, and each later call on it fails until it is opened after all. Of an arbiter, which has no image, the port alone is opened.
     fn open_node(&mut self, opening: &Opening<'_>) -> Result<(), Failed> {
         self.disk = Disk::closed();
         self.devices = None;
@@ -322,9 +322,10 @@ impl<'a, R: Files<File = File> + Net<Stream = TcpStream> + Clock + Eprint + Allo
     }
 
     /// Feeds the watchdog. Later than half the feed delay of the images, and than 500 ms, after the last answer of `now` nothing is fed,
-    /// and the call has failed.
+    /// and the call has failed. After it, once a loop, an image of three that is not open is tried again.
     fn feed(&mut self) -> Result<(), Failed> {
         let done = self.feed_in_time();
+        self.disk.open_again(&self.rt, &self.lines.over(&self.rt));
         self.counted(done)
     }
 
@@ -344,6 +345,7 @@ impl<'a, R: Files<File = File> + Net<Stream = TcpStream> + Clock + Eprint + Allo
     fn send(&mut self, to: Rank, bytes: &[u8]) -> Result<(), Failed> {
         let done = match network_of(&mut self.devices, &mut self.port) {
             Some(network) => {
+                network.tell_due(self.lines);
                 let errors = self.lines.over(&self.rt);
                 reported(&errors, "network", network.send(to, bytes))
             }

@@ -1,8 +1,8 @@
 //! What the nodes of a cluster tell one another of themselves, and what is known of the places that packets come from. No node decides by it:
 //! it is for whoever asks how the cluster is.
-use crate::arrivals::Arrivals;
 use qn_base::Rank;
 use qn_links::Ring;
+use qn_peers::Arrivals;
 use qn_shown::{Heard, HostStanding, Told};
 use std::cell::Cell;
 use std::net::SocketAddr;
@@ -26,7 +26,7 @@ pub(crate) struct Telling {
 /// What a node tells, what it was told, where its arbiter is, and how many packets of each no key opened.
 #[derive(Drop)]
 pub struct Voices {
-    /// What is to be told at the next turn.
+    /// What is to be told at the next turn, or before the next packet.
     due: Cell<Option<Telling>>,
     heard: Cell<[Heard; RANKS]>,
     /// How many packets came from the address of each seat that no key opened.
@@ -55,7 +55,7 @@ impl Voices {
         }
     }
 
-    /// Has the node tell this at its next turn, to the others of so many nodes.
+    /// Has the node tell this at its next turn, or before its next packet, to the others of so many nodes.
     pub fn tell(&self, told: Told, nodes: u8) {
         self.due.set(Some(Telling { told, nodes }));
     }

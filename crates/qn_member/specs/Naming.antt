@@ -1,6 +1,6 @@
 -- A view maker whose views name who may start: what it knows besides, and whom it follows where each node that it sees knows names.
 -- This project's profile; bars and weights are after Pacemaker's standby and location scores.
-use Rattle.std.specs.Prelude.{ℕ, Bool, false, List, Option, None, ◌+◌, ◌%◌, ◌^◌, ◌==◌, ◌&&◌, ◌||◌, not, nat_le, nat_lt, bit_or, if◌then◌else◌, length, replicate, slice_index_or, slice_set}
+use Rattle.std.specs.Prelude.{ℕ, Bool, true, false, List, Option, None, ◌+◌, ◌%◌, ◌^◌, ◌==◌, ◌&&◌, ◌||◌, not, nat_le, nat_lt, bit_or, if◌then◌else◌, length, replicate, slice_index_or, slice_set}
 use Rattle.std.specs.Int.{bit_at}
 use Rattle.std.specs.Option.{option_map_or, option_or}
 use Rattle.qn_base.specs.declared.ids.Mask.{Mask}
@@ -24,6 +24,7 @@ pub record NamingMaker : Type 0 where
   pub weights : List ℕ
   pub lead : Option Lead  -- who led at the last look, and since when
   pub came : Mask  -- the nodes that announced a view since then
+  pub withdrawn : List Bool  -- by rank, whether a node said that it follows another one since it announced a view
   pub made : Option ℕ  -- the tick at which the present view came
   pub naming : Bool  -- at the last look each visible node knew names
   pub closed : Bool  -- the view that was handed on last is one under which nobody may start
@@ -39,6 +40,7 @@ first_naming s me loop_ms =
       weights = replicate 32 0;
       lead = None;
       came = record { 0 = 0 };
+      withdrawn = replicate 32 false;
       made = None;
       naming = false;
       closed = false;
@@ -108,7 +110,17 @@ facts_of m visible =
 abbrev pub is_other : NamingMaker → ℕ → Bool
 is_other m from = is_configured m.maker from && not (from == m.maker.me)
 
--- a Hello says whom its sender hears; what that says of itself comes beside it, and counts for nothing until then
+-- a Hello that says that its sender follows another node withdraws what that announced
+abbrev pub withdraws : ℕ → Said → Bool
+withdraws from said = option_map_or (λ leader. not (leader.0 == from)) said.follows false
+
+abbrev pub withdrawn_by : ℕ → Said → List Bool → List Bool
+withdrawn_by from said withdrawn = if withdraws from said then slice_set withdrawn from true else withdrawn
+
+abbrev pub is_withdrawn : NamingMaker → ℕ → Bool
+is_withdrawn m rank = slice_index_or m.withdrawn rank false
+
+-- a Hello says whom its sender hears and follows; what that says of itself comes beside it, and counts for nothing until then
 abbrev pub after_named_hello : ℕ → ℕ → Said → NamingMaker → NamingMaker
 after_named_hello tick from said m =
     if is_other m from
@@ -116,6 +128,7 @@ after_named_hello tick from said m =
       maker = after_hello tick from said m.maker;
       hears = slice_set m.hears from (said_in m.maker said).hears;
       flags = slice_set m.flags from 0;
+      withdrawn = withdrawn_by from (said_in m.maker said) m.withdrawn;
     }
     else record m { maker = after_hello tick from said m.maker }
 
@@ -144,11 +157,15 @@ after_stand standing holds m =
     }
     else m
 
--- an announcement that counts came since its sender leads, if it does
+-- an announcement that counts came since its sender leads, if it does, and is not withdrawn
 abbrev pub after_named_announce : ℕ → View → NamingMaker → NamingMaker
 after_named_announce from view m =
     if is_configured m.maker from && has_configured m.maker.nodes view.members
-    then record m { maker = after_announce from view m.maker; came = record { 0 = bit_or m.came.0 (2 ^ from) } }
+    then record m {
+      maker = after_announce from view m.maker;
+      came = record { 0 = bit_or m.came.0 (2 ^ from) };
+      withdrawn = slice_set m.withdrawn from false;
+    }
     else record m { maker = after_announce from view m.maker }
 
 -- ## Whom a node follows where all know names

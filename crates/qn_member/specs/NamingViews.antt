@@ -18,7 +18,7 @@ use Rattle.qn_member.specs.declared.lead.Lead.{Lead}
 use Rattle.qn_member.specs.declared.told.Told.{Told}
 use Rattle.qn_member.specs.Announcing.{is_beat, is_same_said, view_to_announce}
 use Rattle.qn_member.specs.Maker.{Maker, after_tick, company_at, followed, followed_view, is_able, heard_nodes, installed_beside, is_configured, is_first_due, is_in_one, is_present, is_steady, known_nodes, least_of, led_by, members_at, noted_with, ranks_that, seeing, view_at, visible_nodes}
-use Rattle.qn_member.specs.Naming.{NamingMaker, barred_bit, company_by_name, facts_of, flagged_nodes, flags_of, followed_by_name, holds_bit, is_fit_to_lead, is_own, knows_all, knows_bit, unfit_bit}
+use Rattle.qn_member.specs.Naming.{NamingMaker, barred_bit, company_by_name, facts_of, flagged_nodes, flags_of, followed_by_name, holds_bit, is_fit_to_lead, is_own, is_withdrawn, knows_all, knows_bit, unfit_bit}
 
 -- ## Who leads
 
@@ -144,9 +144,13 @@ own_by_name tick m company =
     (λ members. if is_present m.maker members then None else Some (view_of m members))
     (members_by_name tick m company)
 
--- an older view is taken of a leader that led at each look for a loop, where it came after the first of them
+-- a newer view is taken of a leader that did not withdraw it; an older one of a leader that led at each look for a loop, where
+-- it came after the first of them
 abbrev pub is_newer : NamingMaker → View → Bool
 is_newer m view = option_map_or (λ present. nat_lt (without_name present.id) (without_name view.id)) m.maker.view true
+
+abbrev pub is_newer_of : NamingMaker → ℕ → View → Bool
+is_newer_of m leader view = is_newer m view && not (is_withdrawn m leader)
 
 abbrev pub is_proven : ℕ → NamingMaker → Bool
 is_proven tick m =
@@ -155,7 +159,7 @@ is_proven tick m =
 abbrev pub followed_by_age : ℕ → NamingMaker → ℕ → Option View
 followed_by_age tick m leader =
     if is_configured m.maker leader
-    then option_and_then (λ view. if is_newer m view || is_proven tick m then Some view else None) (followed_view m.maker leader)
+    then option_and_then (λ view. if is_newer_of m leader view || is_proven tick m then Some view else None) (followed_view m.maker leader)
     else None
 
 abbrev pub next_by_name : ℕ → NamingMaker → Mask → Option View

@@ -1,6 +1,6 @@
 //! A view maker whose views name who may start, and its calls but for the look.
 ghost use Rattle.std.specs.Prelude.{◌≡◌, ◌<◌};
-ghost use Rattle.qn_member.specs.Naming.{has_bit, own_flags};
+ghost use Rattle.qn_member.specs.Naming.{has_bit, own_flags, withdraws};
 
 use crate::hearing::PLAIN;
 use crate::lead::Lead;
@@ -36,6 +36,8 @@ pub struct NamingMember {
     pub(crate) lead: Option<Lead>,
     /// The nodes that announced a view since then.
     pub(crate) came: Mask,
+    /// By rank, whether a node said that it follows another one since it announced a view.
+    pub(crate) withdrawn: [bool; 32],
     /// The tick at which the present view came.
     pub(crate) made: Option<u64>,
     /// At the last look each visible node knew names.
@@ -61,6 +63,7 @@ impl Model for NamingMember {
           weights = m.weights;
           lead = m.lead;
           came = m.came;
+          withdrawn = m.withdrawn;
           made = m.made;
           naming = m.naming;
           closed = m.closed;
@@ -75,6 +78,16 @@ pub(crate) fn has_bit(flags: u8, bit: u8) -> bool
     ensures { result ≡ has_bit flags bit }
 {
     flags >> bit & 1 == 1
+}
+
+/// Whether a Hello of that rank says that it follows another node.
+fn withdraws(from: Rank, said: Said) -> bool
+    ensures { result ≡ withdraws from.0 said }
+{
+    match said.follows {
+        Some(leader) => leader != from,
+        None => false,
+    }
 }
 
 /// What the node itself says: whether it is barred, unfit, or pulls, whether it holds, and that it knows names.
@@ -99,6 +112,7 @@ impl NamingMember {
             weights: [0; 32],
             lead: None,
             came: Mask(0),
+            withdrawn: [false; 32],
             made: None,
             naming: false,
             closed: false,
@@ -121,13 +135,17 @@ impl NamingMember {
     }
 
     /// A Hello of that rank came at this tick, which says this. What its sender says of itself counts no more, until
-    /// `on_standing` says it anew. That of a rank that is not configured is passed over.
+    /// `on_standing` says it anew; and what it announced is withdrawn where it follows another node. That of a rank that is not configured is passed over.
     pub fn on_hello(&mut self, tick: u64, from: Rank, said: Said)
         ensures { self.new ≡ after_named_hello tick from.0 said self.old }
     {
         if self.is_other(from) {
-            self.hears[usize::from(from.0)] = self.member.said_in(said).hears;
+            let heard = self.member.said_in(said);
+            self.hears[usize::from(from.0)] = heard.hears;
             self.flags[usize::from(from.0)] = 0;
+            if withdraws(from, heard) {
+                self.withdrawn[usize::from(from.0)] = true;
+            }
         }
         self.member.on_hello(tick, from, said);
     }
@@ -174,6 +192,7 @@ impl NamingMember {
     {
         if self.member.is_configured(from) && self.member.has_configured(view.members) {
             self.came = Mask(self.came.0 | 1 << from.0);
+            self.withdrawn[usize::from(from.0)] = false;
         }
         self.member.on_announce(tick, from, view);
     }

@@ -45,7 +45,7 @@ impl NamingMember {
     ghost use Rattle.std.specs.Option.{option_map};
     ghost use Rattle.qn_base.specs.Members.{is_member};
     ghost use Rattle.qn_member.specs.Maker.{has_configured, led_by, view_at};
-    ghost use Rattle.qn_member.specs.NamingViews.{after_by_name, after_found, after_look, after_plain_look, answer_at, apart_nodes, chosen_by, company_now, copy_again, copy_of, ended, followed_by_age, followed_now, handed, is_apart, is_closed_to, is_led_by, is_loop_old, is_named_anew, is_newer, is_proven, is_sixth_loop, leader_now, leading, leads_itself, may_begin, may_not_start, members_by_name, named_now, next_by_name, noted_by_name, own_by_name, said_by_name, seeing_names, standing_at, view_by_name, view_found, view_of};
+    ghost use Rattle.qn_member.specs.NamingViews.{after_by_name, after_found, after_look, after_plain_look, answer_at, apart_nodes, chosen_by, company_now, copy_again, copy_of, ended, followed_by_age, followed_now, handed, is_apart, is_closed_to, is_led_by, is_loop_old, is_named_anew, is_newer, is_newer_of, is_proven, is_sixth_loop, leader_now, leading, leads_itself, may_begin, may_not_start, members_by_name, named_now, next_by_name, noted_by_name, own_by_name, said_by_name, seeing_names, standing_at, view_by_name, view_found, view_of};
 
     /// A look at a tick: the view to install, or None where the present one stays. It is the node's own copy of the view: one
     /// under which nobody may start, where the node may not start and the view would choose it. A view that the look itself finds
@@ -341,6 +341,14 @@ impl NamingMember {
         }
     }
 
+    /// Whether a view is newer, and the leader that announced it did not withdraw it.
+    fn is_newer_of(&self, leader: Rank, view: View) -> bool
+        requires { leader.0 < 32 }
+        ensures { result ≡ is_newer_of self.now leader.0 view }
+    {
+        self.is_newer(view) && !self.withdrawn[usize::from(leader.0)]
+    }
+
     /// Whether the leader led at each look for a loop, and announced a view after the first of them.
     fn is_proven(&self, tick: u64) -> bool
         ensures { result ≡ is_proven tick self.now }
@@ -364,7 +372,7 @@ impl NamingMember {
             return None;
         }
         let view = self.member.followed_view(leader)?;
-        if self.is_newer(view) || self.is_proven(tick) {
+        if self.is_newer_of(leader, view) || self.is_proven(tick) {
             Some(view)
         } else {
             None

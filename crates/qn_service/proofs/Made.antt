@@ -7,7 +7,7 @@ use Rattle.qn_base.specs.declared.ids.View.{View}
 use Rattle.qn_base.specs.Members.{is_member}
 use Rattle.qn_member.specs.Maker.{Maker, company_at, company_under, follows_other, followed_view, is_first_due, is_led, is_present, is_present_member, is_taken, is_visible, leader_at, led_by, led_nodes, looked, may_install, members_at, next_view, of_rank, own_view, view_at, view_under, visible_nodes}
 use Rattle.qn_member.specs.Naming.{NamingMaker, is_own, knows_bit}
-use Rattle.qn_member.specs.NamingViews.{company_now, followed_by_age, is_led_by, is_newer, is_proven, lead_since, leading, looked_by_name, may_begin, own_by_name, said_by_name, seeing_names, view_by_name, view_found}
+use Rattle.qn_member.specs.NamingViews.{company_now, followed_by_age, is_led_by, is_newer_of, is_proven, lead_since, leading, looked_by_name, may_begin, own_by_name, said_by_name, seeing_names, view_by_name, view_found}
 use Rattle.qn_member.specs.Maker as maker
 use Rattle.qn_service.specs.Leading.{MakesView, TakesView, leader_then}
 
@@ -79,9 +79,9 @@ next_was false leader me own taken view is = absurd (none-some view is)
 aged : (tick : ℕ) (m : NamingMaker) (leader : ℕ) (view : View) → followed_by_age tick m leader ≡ Some view → followed_view m.maker leader ≡ Some view
 aged tick m leader view = by_known (maker.is_configured m.maker leader)
   where
-    by_known : (b : Bool) → (if b then option_and_then (λ seen. if is_newer m seen || is_proven tick m then Some seen else None) (followed_view m.maker leader) else None) ≡ Some view
+    by_known : (b : Bool) → (if b then option_and_then (λ seen. if is_newer_of m leader seen || is_proven tick m then Some seen else None) (followed_view m.maker leader) else None) ≡ Some view
         → followed_view m.maker leader ≡ Some view
-    by_known true is = (filtered (λ seen. is_newer m seen || is_proven tick m) (followed_view m.maker leader) view is).0
+    by_known true is = (filtered (λ seen. is_newer_of m leader seen || is_proven tick m) (followed_view m.maker leader) view is).0
     by_known false is = absurd (none-some view is)
 
 -- the view of a look of a node that knows names

@@ -4,6 +4,8 @@ use Rattle.qn_base.specs.declared.ids.View.{View}
 use Rattle.qn_base.specs.Candidates.{is_barred}
 use Rattle.qn_base.specs.Members.{is_member}
 use Rattle.qn_event.specs.EventTexts.{EventText}
+use Rattle.qn_event.specs.declared.event_name.EventName.{EventName}
+use Rattle.qn_event.specs.declared.event_name.EventName.TheVariants as name
 use Rattle.qn_event.specs.declared.level.Level.{Level}
 use Rattle.qn_event.specs.declared.level.Level.TheVariants.{Error, Warning, Notice, Information}
 use Rattle.qn_event.specs.declared.moment.Moment.{Moment}
@@ -22,25 +24,25 @@ use Rattle.qn_names.specs.WhyTexts.{why_text}
 use Rattle.qn_event.specs.WholeLines.{Word, line, number, text, truth}
 
 -- the name of an event
-abbrev pub name_of : Event → List ℕ
-name_of (event.Phase from to) = codes "phase"
-name_of (event.Claimed incarnation) = codes "claimed"
-name_of (event.View view answer) = codes "view"
-name_of event.Released = codes "released"
-name_of (event.QuorumWon answer) = codes "quorum-won"
-name_of (event.QuorumLost answer) = codes "quorum-lost"
-name_of (event.Why why) = codes "why"
-name_of (event.FenceAsked of) = codes "fence-asked"
-name_of (event.FenceWritten of ok) = codes "fence-written"
-name_of (event.Licence of) = codes "licence"
-name_of event.StartAsked = codes "start-asked"
-name_of event.StopAsked = codes "stop-asked"
-name_of (event.StartAnswered ok) = codes "start"
-name_of (event.StopAnswered ok) = codes "stop"
-name_of (event.DisarmAnswered ok) = codes "disarm"
-name_of event.HoldWon = codes "hold-won"
-name_of event.HoldLost = codes "hold-lost"
-name_of (event.Halt kind) = codes "halt"
+abbrev pub name_of : Event → EventName
+name_of (event.Phase from to) = name.Phase
+name_of (event.Claimed incarnation) = name.Claimed
+name_of (event.View view answer) = name.View
+name_of event.Released = name.Released
+name_of (event.QuorumWon answer) = name.QuorumWon
+name_of (event.QuorumLost answer) = name.QuorumLost
+name_of (event.Why why) = name.Why
+name_of (event.FenceAsked of) = name.FenceAsked
+name_of (event.FenceWritten of ok) = name.FenceWritten
+name_of (event.Licence of) = name.Licence
+name_of event.StartAsked = name.StartAsked
+name_of event.StopAsked = name.StopAsked
+name_of (event.StartAnswered ok) = name.Start
+name_of (event.StopAnswered ok) = name.Stop
+name_of (event.DisarmAnswered ok) = name.Disarm
+name_of event.HoldWon = name.HoldWon
+name_of event.HoldLost = name.HoldLost
+name_of (event.Halt kind) = name.Halt
 
 -- the level of an event
 abbrev pub level_of : Event → Level

@@ -8,7 +8,7 @@ ghost use Rattle.qn_event.specs.WholeLines.{text, with_words};
 
 use arrayvec::ArrayVec;
 use qn_base::{Mask, NodeId, Rank, View, add, add_number};
-use qn_event::{EventLine, Level, Moment};
+use qn_event::{EventLine, EventName, Level, Moment};
 use qn_model::{Answer, HaltKind, Nodes, Why};
 use qn_names::{cause_number, phase_name, write_why};
 use qn_notice::Event;
@@ -103,28 +103,28 @@ fn add_named_answer(line: &mut EventLine, candidate: Option<u64>, answer: &Answe
 }
 
 /// The name of an event.
-fn name_of(event: &Event) -> &'static [u8]
-    ensures text { result.now ≡ name_of event.now }
+fn name_of(event: &Event) -> EventName
+    ensures { result ≡ name_of event.now }
 {
     match event {
-        Event::Phase { .. } => b"phase",
-        Event::Claimed { .. } => b"claimed",
-        Event::View { .. } => b"view",
-        Event::Released => b"released",
-        Event::QuorumWon { .. } => b"quorum-won",
-        Event::QuorumLost { .. } => b"quorum-lost",
-        Event::Why { .. } => b"why",
-        Event::FenceAsked { .. } => b"fence-asked",
-        Event::FenceWritten { .. } => b"fence-written",
-        Event::Licence { .. } => b"licence",
-        Event::StartAsked => b"start-asked",
-        Event::StopAsked => b"stop-asked",
-        Event::StartAnswered { .. } => b"start",
-        Event::StopAnswered { .. } => b"stop",
-        Event::DisarmAnswered { .. } => b"disarm",
-        Event::HoldWon => b"hold-won",
-        Event::HoldLost => b"hold-lost",
-        Event::Halt { .. } => b"halt",
+        Event::Phase { .. } => EventName::Phase,
+        Event::Claimed { .. } => EventName::Claimed,
+        Event::View { .. } => EventName::View,
+        Event::Released => EventName::Released,
+        Event::QuorumWon { .. } => EventName::QuorumWon,
+        Event::QuorumLost { .. } => EventName::QuorumLost,
+        Event::Why { .. } => EventName::Why,
+        Event::FenceAsked { .. } => EventName::FenceAsked,
+        Event::FenceWritten { .. } => EventName::FenceWritten,
+        Event::Licence { .. } => EventName::Licence,
+        Event::StartAsked => EventName::StartAsked,
+        Event::StopAsked => EventName::StopAsked,
+        Event::StartAnswered { .. } => EventName::Start,
+        Event::StopAnswered { .. } => EventName::Stop,
+        Event::DisarmAnswered { .. } => EventName::Disarm,
+        Event::HoldWon => EventName::HoldWon,
+        Event::HoldLost => EventName::HoldLost,
+        Event::Halt { .. } => EventName::Halt,
     }
 }
 

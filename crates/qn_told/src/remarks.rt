@@ -4,14 +4,14 @@ ghost use Rattle.qn_told.specs.Remarks.{device_answered, device_silent, ended, f
 ghost use Rattle.qn_event.specs.WholeLines.{with_words};
 
 use qn_base::NodeId;
-use qn_event::{EventLine, Level, Moment};
+use qn_event::{EventLine, EventName, Level, Moment};
 use qn_model::{Mail, Sender};
 
 /// That a node is heard which was not.
 pub fn peer_seen(at: Moment, id: NodeId) -> EventLine
     ensures { result ≡ peer_seen at id }
 {
-    let mut line = EventLine::new(at, Level::Information, b"peer-seen");
+    let mut line = EventLine::new(at, Level::Information, EventName::PeerSeen);
     line.number(b"id", u64::from(id.0));
     line
 }
@@ -20,7 +20,7 @@ pub fn peer_seen(at: Moment, id: NodeId) -> EventLine
 pub fn peer_lost(at: Moment, id: NodeId, silent: u64) -> EventLine
     ensures { result ≡ peer_lost at id silent }
 {
-    let mut line = EventLine::new(at, Level::Warning, b"peer-lost");
+    let mut line = EventLine::new(at, Level::Warning, EventName::PeerLost);
     line.number(b"id", u64::from(id.0));
     line.number(b"silent", silent);
     line
@@ -30,7 +30,7 @@ pub fn peer_lost(at: Moment, id: NodeId, silent: u64) -> EventLine
 pub fn network_lost(at: Moment, network: u64, id: NodeId) -> EventLine
     ensures { result ≡ network_lost at network id }
 {
-    let mut line = EventLine::new(at, Level::Warning, b"network-lost");
+    let mut line = EventLine::new(at, Level::Warning, EventName::NetworkLost);
     line.number(b"network", network);
     line.number(b"id", u64::from(id.0));
     line
@@ -40,7 +40,7 @@ pub fn network_lost(at: Moment, network: u64, id: NodeId) -> EventLine
 pub fn network_back(at: Moment, network: u64, id: NodeId) -> EventLine
     ensures { result ≡ network_back at network id }
 {
-    let mut line = EventLine::new(at, Level::Notice, b"network-back");
+    let mut line = EventLine::new(at, Level::Notice, EventName::NetworkBack);
     line.number(b"network", network);
     line.number(b"id", u64::from(id.0));
     line
@@ -50,7 +50,7 @@ pub fn network_back(at: Moment, network: u64, id: NodeId) -> EventLine
 pub fn device_answered(at: Moment, agrees: bool, view: u64) -> EventLine
     ensures { result ≡ device_answered at agrees view }
 {
-    let mut line = EventLine::new(at, Level::Notice, b"device");
+    let mut line = EventLine::new(at, Level::Notice, EventName::Device);
     line.truth(b"answer", agrees);
     line.number(b"view", view);
     line
@@ -60,7 +60,7 @@ pub fn device_answered(at: Moment, agrees: bool, view: u64) -> EventLine
 pub fn device_silent(at: Moment, age: u64) -> EventLine
     ensures { result ≡ device_silent at age }
 {
-    let mut line = EventLine::new(at, Level::Warning, b"device-silent");
+    let mut line = EventLine::new(at, Level::Warning, EventName::DeviceSilent);
     line.number(b"age", age);
     line
 }
@@ -69,7 +69,7 @@ pub fn device_silent(at: Moment, age: u64) -> EventLine
 pub fn image_lost(at: Moment, image: u64) -> EventLine
     ensures { result ≡ image_lost at image }
 {
-    let mut line = EventLine::new(at, Level::Warning, b"image-lost");
+    let mut line = EventLine::new(at, Level::Warning, EventName::ImageLost);
     line.number(b"image", image);
     line
 }
@@ -78,7 +78,7 @@ pub fn image_lost(at: Moment, image: u64) -> EventLine
 pub fn image_back(at: Moment, image: u64) -> EventLine
     ensures { result ≡ image_back at image }
 {
-    let mut line = EventLine::new(at, Level::Notice, b"image-back");
+    let mut line = EventLine::new(at, Level::Notice, EventName::ImageBack);
     line.number(b"image", image);
     line
 }
@@ -92,7 +92,7 @@ pub fn mail_told(at: Moment, mail: Mail) -> EventLine
     } else {
         Level::Notice
     };
-    let mut line = EventLine::new(at, level, b"mail");
+    let mut line = EventLine::new(at, level, EventName::Mail);
     let name = mail.message.name().as_bytes();
     line.word(b"message", name, name.len());
     add_sender(&mut line, mail.by);
@@ -118,21 +118,21 @@ fn add_sender(line: &mut EventLine, by: Option<Sender>)
 pub fn mail_damaged(at: Moment) -> EventLine
     ensures { result ≡ mail_damaged at }
 {
-    EventLine::new(at, Level::Error, b"mail-damaged")
+    EventLine::new(at, Level::Error, EventName::MailDamaged)
 }
 
 /// That the mailbox could not be read.
 pub fn mail_failed(at: Moment) -> EventLine
     ensures { result ≡ mail_failed at }
 {
-    EventLine::new(at, Level::Error, b"mail-failed")
+    EventLine::new(at, Level::Error, EventName::MailFailed)
 }
 
 /// That so many feeds failed or came too late.
 pub fn feeds_failed(at: Moment, count: u64) -> EventLine
     ensures { result ≡ feeds_failed at count }
 {
-    let mut line = EventLine::new(at, Level::Error, b"feed");
+    let mut line = EventLine::new(at, Level::Error, EventName::Feed);
     line.truth(b"ok", false);
     line.number(b"count", count);
     line
@@ -142,7 +142,7 @@ pub fn feeds_failed(at: Moment, count: u64) -> EventLine
 pub fn packets_refused(at: Moment, count: u64) -> EventLine
     ensures { result ≡ packets_refused at count }
 {
-    let mut line = EventLine::new(at, Level::Warning, b"packets-refused");
+    let mut line = EventLine::new(at, Level::Warning, EventName::PacketsRefused);
     line.number(b"count", count);
     line
 }
@@ -156,7 +156,7 @@ pub fn ended(at: Moment, end: &[u8], is_fault: bool) -> EventLine
     } else {
         Level::Notice
     };
-    let mut line = EventLine::new(at, level, b"end");
+    let mut line = EventLine::new(at, level, EventName::End);
     line.quoted(b"end", end);
     line
 }

@@ -1,0 +1,6 @@
+pub mod Devices
+pub mod Entries
+pub mod Hearing
+pub mod Losses
+pub mod Seldoms
+pub mod Tellings
