@@ -1,0 +1,2 @@
+use std :: net :: IpAddr ;
+pub type Links = [ Option < IpAddr > ; 32 ] ;

@@ -1,0 +1,5 @@
+pub use receiver :: Receiver ;
+pub use receiver :: Refused ;
+mod keys ;
+mod receiver ;
+mod seals ;

@@ -1,0 +1,14 @@
+mod admission ;
+mod arrivals ;
+mod peers ;
+pub use admission :: ARBITER ;
+pub use admission :: Admission ;
+pub use admission :: LEAVE ;
+pub use admission :: Reason ;
+pub use admission :: Sender ;
+pub use admission :: WORD ;
+pub use admission :: is_double ;
+pub use admission :: is_vote_of_host ;
+pub use arrivals :: Arrivals ;
+pub use peers :: Destination ;
+pub use peers :: Peers ;
