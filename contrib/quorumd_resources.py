@@ -204,7 +204,7 @@ def resources_of(conf):
 
 
 def agent_words():
-    """What agent.env says that the node of this host starts and stops: `group`, or `service UNIT`."""
+    """What agent.env says that the node of this host starts and stops: `group`, `service UNIT`, or `none`."""
     words = ["group"]
     try:
         with open(AGENT_ENV) as file:
@@ -217,12 +217,14 @@ def agent_words():
 
 
 def resources():
-    """The resources of this host: those of the file, or the one unit that agent.env names."""
+    """The resources of this host: those of the file, or the one unit that agent.env names, or none: the host of a witness."""
     words = agent_words()
     if words[:1] == ["service"] and len(words) == 2:
         return [Unit(words[1], words[1], dict(NUMBERS))]
+    if words == ["none"]:
+        return []
     if words != ["group"]:
-        raise Wrong("%s: AGENT=%s is neither `group` nor `service UNIT`" % (AGENT_ENV, " ".join(words)))
+        raise Wrong("%s: AGENT=%s is none of `group`, `service UNIT` and `none`" % (AGENT_ENV, " ".join(words)))
     return resources_of(CONF)
 
 

@@ -349,6 +349,8 @@ class Supervisor:
         try:
             os.close(os.open(HELD, os.O_WRONLY | os.O_CREAT, 0o600))
             self.read_again()
+            if not self.resources:
+                raise resources.Wrong("%s: AGENT=none: this host has no resources" % resources.AGENT_ENV)
             if resources.agent_words() == ["group"]:
                 shutil.copyfile(resources.CONF, COPY)
             else:

@@ -5,7 +5,7 @@ RUN_AS=()
 
 # expect STATUS 'OUTPUT' WORD..: runs the program with these words, and stops the script where its status or its
 # output is another one. OUTPUT is as for printf: `\n` ends a line. Standard input is that of the call. Standard error
-# must have a line of the program where the outside failed or the words are no command, and else nothing; it is left in the file .errors,
+# must have a line of the program where the status is another one than 0, and else nothing; it is left in the file .errors,
 # without the lines which say that an image was made, and that its feed delay is short.
 expect() {
     local wanted=$1 text=$2 status=0 lines=''
@@ -13,9 +13,7 @@ expect() {
     printf "$text" > .wanted
     "${RUN_AS[@]}" "$QUORUMD" "$@" > .got 2> .said || status=$?
     sed -e '/: nothing was there, and an empty file was made$/d' -e '/: feed delay [0-9]*: /d' .said > .errors
-    case $wanted in
-    2 | 6 | 7 | 8) lines='quorumd: .+' ;;
-    esac
+    [ "$wanted" = 0 ] || lines='quorumd: .+'
     if [ "$status" != "$wanted" ] || ! cmp -s .wanted .got || ! [[ $(cat .errors) =~ ^$lines$ ]]; then
         printf 'quorumd %s\nwanted status %s and:\n%s\ngot status %s and:\n%s\nand on standard error:\n%s\n' \
             "$*" "$wanted" "$(cat .wanted)" "$status" "$(cat .got)" "$(cat .errors)"

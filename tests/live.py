@@ -22,10 +22,16 @@ TURNS = 20000  # of a node that nobody ends: about a quarter of an hour
 LONG_LOOP = "500,2100,1000,1000,500"  # a node that the machine lets wait for less than three loops is not taken for a dead one
 WARNINGS = (": a file or a pipe: it resets nothing", ": nothing was there, and an empty file was made",
             "packets carry no seal: any user of this host can forge them")
+ADVICE = ("quorumctl ", " of the documentation ", "mend what the line before this one names")  # in lines that say what can be done about a fault
 PLAIN = {name: value for name, value in os.environ.items() if name != "JOURNAL_STREAM"}  # with that, lines begin with their level
 RESERVED = []  # a TCP socket for each UDP port that a script uses, so that two scripts never use the same one
 STARTED = []
 INSIDE = "INSIDE_NETWORK_NAMESPACE"
+
+
+def without_advice(said):
+    """What a program said on standard error, without what can be done about a fault."""
+    return "".join(line for line in said.splitlines(True) if not any(words in line for words in ADVICE))
 
 
 class Wrong(Exception):
@@ -276,7 +282,7 @@ class Node:
     def said(self):
         """What it did and the system's own words, in the order of its lines on standard error; but no warning of an opening."""
         lines = [done_of(event_of(line)) if event_of(line) else line.removeprefix("quorumd: ") for line in self.log.read_text().splitlines()]
-        return [line for line in lines if line and not line.endswith(WARNINGS)]
+        return [line for line in lines if line and not line.endswith(WARNINGS) and " did not boot: " not in line]
 
     def opened(self):
         """What it says of its opening, without its end."""

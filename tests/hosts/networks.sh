@@ -70,6 +70,7 @@ scene_both_networks() {
 # One node after the other goes from a text of one network to that of two, and back: the standbys first, the holder last. Nobody is reset.
 scene_network_added() {
     local n conf
+    for n in 1 2 3; do sed -i 's#^EDGE=.*#& --seal-meaning#' "$room/host$n/etc/quorumd/node-$n.env"; done
     second_network && database_written || return 1
     second_addresses < "$room/corosync.conf" > "$room/two.conf"
     fault 'the second network comes into the text, and goes out of it'
@@ -79,7 +80,7 @@ scene_network_added() {
             cp "$room/$conf.conf" "$room/host$n/etc/quorumd/corosync.conf"
             on "$n" systemctl restart "quorumd@$n.service" && until_true 60 well_again "$n" && writes_again 40 || return 1
         done
-        [ "$conf" != two ] || { owner_moves_to_1 && on 1 quorumctl status; } || return 1
+        [ "$conf" != two ] || { owner_moves_to_1 && until_true 20 on 1 quorumctl status; } || return 1
     done
     none_reset && judge_rows
 }

@@ -110,7 +110,7 @@ scene_witness() {
     text_of '' 1 2 3 | sed '/nodeid: 3$/a \  standby: yes\n  quorum_votes: 3' | in_text || return 1
     database_on_store "$UNIT" || return 1
     rm "$room/host3/etc/quorumd/resources.conf"
-    sed -i 's#^RESOURCE=.*#RESOURCE=/run/quorumd/held#; s#^GROUP=.*#GROUP=#' "$room/host3/etc/quorumd/node-3.env"
+    echo 'AGENT=none' > "$room/host3/etc/quorumd/agent.env"
     FIRMWARE=25 begun && load || return 1
     fault 'the nodes of hosts 1 and 2 are killed'
     for n in 1 2; do on "$n" systemctl kill --kill-whom=main -s KILL "quorumd@$n.service" & done

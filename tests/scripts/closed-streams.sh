@@ -47,6 +47,7 @@ due() {
         sed -i '/: nothing was there, and an empty file was made$/d' errors
         case $wanted in
         6 | 7) same "$(head -c 18 errors)" 'quorumd: standard ' ;;
+        9) same "$(cat errors)" 'quorumd: image: BadImage sector 0: quorumctl check --image image says what is there' ;;
         *) same "$(cat errors)" '' ;;
         esac
     fi

@@ -100,8 +100,8 @@ def no_images():
     """A server that is away, one that fails, and one that gives no image."""
     away = "nbd:unix:%s" % pathlib.Path("away").absolute()
     for command in "list", "check":
-        same("away", ran([QUORUMCTL, command, "--image", away]), (8, "", "quorumctl: %s: No such file or directory (os error 2)\n" % away))
-        same("nobody", ran([QUORUMCTL, command, "--image", "etcd:127.0.0.1:1/x"]), (8, "", "quorumctl: etcd:127.0.0.1:1/x: Connection refused (os error 111)\n"))
+        same("away", ran([QUORUMCTL, command, "--image", away]), (8, "", "quorumctl: %s: No such file or directory (os error 2); look at the path, and whether its file system is mounted\n" % away))
+        same("nobody", ran([QUORUMCTL, command, "--image", "etcd:127.0.0.1:1/x"]), (8, "", "quorumctl: etcd:127.0.0.1:1/x: Connection refused (os error 111); start its server, or name the port that it has\n"))
         same("no word", ran([QUORUMCTL, command, "--image", "nbd:x"]), (8, "", "quorumctl: nbd:x: no address and port of a block server\n"))
     blank = BlockServer(pathlib.Path("blank").absolute())
     same("blank", ran([QUORUMCTL, "list", "--image", blank.word()]), (1, "fault: sector 0 is no header: the file is no image\n", ""))

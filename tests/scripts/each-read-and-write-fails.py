@@ -7,6 +7,7 @@ PROGRAM, TOP = os.environ["QUORUMD"], pathlib.Path(os.environ["TOP"])
 # the size of a file that a limited run may write
 ROOM = 1 << 20
 
+ADVICE = "mend what the line before this one names"  # a line that stands behind the system's words
 DIRECTORY = "Is a directory (os error 21)"
 CLOSED = "Bad file descriptor (os error 9)"
 RESET = "Connection reset by peer (os error 104)"
@@ -31,7 +32,8 @@ def run(words, stdin, stdout, limit=None, closes=()):
 
     done = subprocess.run([PROGRAM, *words], stdin=stdin, stdout=stdout, stderr=subprocess.PIPE, preexec_fn=prepare,
                           timeout=60)
-    return done.returncode, done.stderr.decode()
+    lines = done.stderr.decode().splitlines(True)
+    return done.returncode, "".join(line for line in lines if ADVICE not in line)
 
 
 def want(words, where, got, wanted):
@@ -90,7 +92,9 @@ def read_fails_after(content, status, answer):
     fresh()
     with resets_after(content) as stdin, open("got", "wb") as stdout:
         got = run(["replay"], stdin, stdout)
-    errors = "quorumd: standard input: %s\n" % RESET if status == 6 else ""
+    errors = {3: "%s: quorumctl settings < FILE shows its lines, and what they may say", 4: "%s: FORMATS.md of the documentation has the lines that may stand there",
+              5: "%s: SCHEDULES.md of the documentation has the rules, by number", 6: RESET.replace("%", "%%") + "%.0s"}[status]
+    errors = "quorumd: standard input: %s\n" % (errors % answer.decode().splitlines()[-1].removeprefix("fault "))
     want(["replay"], "where reading fails after %r" % content, (*got, read("got")), (status, errors, answer))
 
 
@@ -150,7 +154,7 @@ def is_none(where, sector):
     if sector == 0:
         return want(["create"], where, read("disk"), read("image"))
     with open("got", "wb") as stdout:
-        want(["list"], where, run(["list", "--image", "disk"], subprocess.DEVNULL, stdout), (9, ""))
+        want(["list"], where, run(["list", "--image", "disk"], subprocess.DEVNULL, stdout), (9, "quorumd: disk: BadImage sector 0: quorumctl check --image disk says what is there\n"))
     want(["list"], where, read("got"), b"fault BadImage sector 0\n")
 
 

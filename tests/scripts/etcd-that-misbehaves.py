@@ -28,7 +28,7 @@ ENDS = -9, 0, 8, 13, 14  # of a node: killed by its machine, left, a call failed
 def run(command, host, prefix):
     words = [live.QUORUMD, command[0], "--image", "etcd:%s/%s" % (host, prefix), *command[1:]]
     done = subprocess.run(words, input=SETTINGS, capture_output=True, check=False)
-    return done.returncode, done.stdout.decode(), done.stderr.decode()
+    return done.returncode, done.stdout.decode(), live.without_advice(done.stderr.decode())
 
 
 def sectors(prefix):

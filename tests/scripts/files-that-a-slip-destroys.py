@@ -12,16 +12,17 @@ TOP = pathlib.Path(os.environ["TOP"])
 ONE, TWO = ((TOP / "examples" / name).read_bytes() for name in ("one-node.conf", "two-node.conf"))
 SECTORS = 544  # of an image of 32 nodes
 IMAGE = "not blank: an image of %d nodes is there. quorumd --anew create .. writes over it"
+ADVICE = "mend what the line before this one names"
 OTHER = "not blank: no image is there, but something else. quorumd --anew create .. writes over it"
 MADE = "nothing was there, and an empty file was made"
 SHORT = "feed delay %d: a feed is given within %d ms only; a longer stall of the node resets its machine. Take 1000 or more"
 
 
 def create(image, *before, settings=TWO, timing=None):
-    """Status and output of a `create`, and what it said of the image."""
+    """Status and output of a `create`, and what it said of the image, without what can be done about it."""
     words = [live.QUORUMD, *before, "create", "--image", str(image), *(["--timing", timing] if timing else [])]
     done = subprocess.run(words, input=settings, capture_output=True, check=False)
-    return done.returncode, done.stdout.decode(), [line.removeprefix("quorumd: %s: " % image) for line in done.stderr.decode().splitlines()]
+    return done.returncode, done.stdout.decode(), [line.removeprefix("quorumd: %s: " % image) for line in done.stderr.decode().splitlines() if ADVICE not in line]
 
 
 CREATED, REFUSED = (0, "created nodes 2\n"), (8, "fault EnvFault\n")
@@ -131,7 +132,7 @@ def what_is_absent():
     folder.mkdir()
     for command in ("list",), ("dump",), ("message", "--id", "1", "--kind", "off"), ("migrate",):
         done = subprocess.run([live.QUORUMD, *command, "--image", str(folder / "disk")], capture_output=True, text=True, check=False)
-        same(command, (done.returncode, done.stdout, done.stderr), (9, "fault BadImage sector 0\n", ""))
+        same(command, (done.returncode, done.stdout, done.stderr), (9, "fault BadImage sector 0\n", "quorumd: {0}: BadImage sector 0: quorumctl check --image {0} says what is there\n".format(folder / "disk")))
         same("files after %s" % (command,), list(folder.iterdir()), [])
     (folder / "link").symlink_to(folder / "other")
     same("a link to nothing", create(folder / "link"), (*REFUSED, ["File exists (os error 17)"]))

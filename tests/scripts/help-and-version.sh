@@ -22,6 +22,17 @@ for command in $("$QUORUMD" help | cut -d ' ' -f 2-); do
         "$command $(printf '%s\n' "$page" | sed -n 's/.*Fl \(-[a-z-]*\).*/-\1/p' | options)"
 done
 
+# `--help` behind a command: its lines of the help, an example of it, and what an image may be where it takes one; nothing is read
+for command in $("$QUORUMD" help | cut -d ' ' -f 2-); do
+    for word in --help -h; do
+        "$QUORUMD" "$command" $word > one <&-
+        same "$(head -n 2 one)" "$(grep -A 1 -e "^quorumd $command\( .*\)*\$" text)"
+        same "$(sed -n 3p one)" 'for example:'
+        grep -q "^    quorumd .*\<$command\>" <(sed -n 4p one)
+        same "$(sed -n '5,$p' one)" "$(! grep -q -- ' --image ' one || grep '^an image is ' text)"
+    done
+done
+
 # with another word they are words like others
 for words in '--help count' '-h -h' '--version 1'; do
     # shellcheck disable=SC2086

@@ -100,6 +100,6 @@ same(told(first, second), [DAY + "01.000  node 1 booted as incarnation 1", DAY +
 same(told([]), [], "nothing")
 same(told([line(1, "4102444799.999", "hold-won")]), ["2099-12-31 23:59:59.999  node 1 holds the resource"], "a date")
 # files that cannot be read
-same(quorumctl("history", "absent"), (8, "", "quorumctl: absent: No such file or directory (os error 2)\n"), "absent")
+same(quorumctl("history", "absent"), (8, "", "quorumctl: absent: No such file or directory (os error 2); look at the path, and whether its file system is mounted\n"), "absent")
 pathlib.Path("folder").mkdir()
-same(quorumctl("history", "folder"), (8, "", "quorumctl: folder: Is a directory (os error 21)\n"), "a folder")
+same(quorumctl("history", "folder"), (8, "", "quorumctl: folder: Is a directory (os error 21); name a file in it\n"), "a folder")

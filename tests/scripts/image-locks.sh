@@ -9,7 +9,7 @@ cp disk before
 exec 5< disk
 flock --shared --nonblock 5
 expect 8 'fault EnvFault\n' create --image disk < "$settings"
-same "$(cat .errors)" 'quorumd: disk: another program has it open'
+same "$(head -n 1 .errors)" 'quorumd: disk: another program has it open'
 cmp disk before
 expect 0 'node 1 incarnation 0 clean mail empty\nnode 2 incarnation 0 clean mail empty\n' list --image disk
 expect 0 'sent off to 1\n' message --image disk --id 1 --kind off
@@ -22,7 +22,7 @@ flock --exclusive --nonblock 5
 for command in create dump list 'message --id 1 --kind crashdump'; do
     # shellcheck disable=SC2086
     expect 8 'fault EnvFault\n' $command --image disk < "$settings"
-    same "$(cat .errors)" 'quorumd: disk: another program has it open'
+    same "$(head -n 1 .errors)" 'quorumd: disk: another program has it open'
     cmp disk before
 done
 exec 5<&-

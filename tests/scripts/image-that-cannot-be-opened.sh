@@ -7,7 +7,7 @@ refused() {
     local path=$1 word=$2
     shift 2
     expect 8 'fault EnvFault\n' "$@" --image "$path" < "$TOP/examples/one-node.conf"
-    same "$(cat .errors)" "quorumd: $path: $word"
+    same "$(head -n 1 .errors)" "quorumd: $path: $word"
 }
 
 # refused_all PATH WORD: every command is

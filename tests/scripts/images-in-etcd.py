@@ -14,7 +14,7 @@ import threading
 import time
 
 from etcd import Crooked, Keys, servers, text
-from live import QUORUMD, Cluster, Wrong, free_ports, same, try_all, wait_for
+from live import QUORUMD, Cluster, Wrong, free_ports, same, try_all, wait_for, without_advice
 
 if not shutil.which("etcd"):
     print("skipped: no etcd (Debian: etcd-server)")
@@ -47,7 +47,7 @@ class EtcdCluster(Cluster):
 def said_of(command, image, *words, before=()):
     done = subprocess.run([QUORUMD, *before, command, "--image", image, *words], stdin=open(TOP + "/examples/two-node.conf"),
                           stdout=subprocess.PIPE, stderr=subprocess.PIPE, check=False)
-    return done.returncode, done.stdout.decode(), done.stderr.decode()
+    return done.returncode, done.stdout.decode(), without_advice(done.stderr.decode())
 
 
 def words_that_are_none():

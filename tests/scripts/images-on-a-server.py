@@ -25,7 +25,7 @@ def answer(command, image, settings=b""):
     words = command.split()
     before = ["--anew"] if words[0] == "create" else []
     done = subprocess.run([live.QUORUMD, *before, words[0], "--image", str(image), *words[1:]], input=settings, capture_output=True, check=False)
-    said = done.stderr.decode()
+    said = live.without_advice(done.stderr.decode())
     for name in image, str(image).removesuffix("@4096"):
         said = said.replace("quorumd: %s: " % name, "")
     return done.returncode, done.stdout.decode(), said

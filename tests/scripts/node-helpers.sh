@@ -48,7 +48,7 @@ same "$(cat run/standing-2)" ''
 # the words of a host: a standby is remembered over a start, and the weight stays; that the node was unfit, or asked for, ends. A start that is refused changes nothing
 printf 'pull on\nfit no\nweight 12\nstandby off\n' > run/standing-2
 echo 'standby on' > state/standby-2
-checked 1 'node 2 is not started: no such image: none' IMAGE=none
+checked 1 'node 2 is not started: no such image: none. Mount its file system or start its server, and start this again' IMAGE=none
 same "$(xargs < run/standing-2)" 'pull on fit no weight 12 standby off'
 checked 0 ''
 same "$(xargs < run/standing-2)" 'standby on weight 12'
@@ -59,14 +59,15 @@ echo 'standby maybe' > state/standby-2
 checked 0 ''
 same "$(xargs < run/standing-2)" 'weight 12'
 rm state/standby-2 run/standing-2
-no='node 2 is not started:'
+no='node 2 is not started:' others='the lines before this one say what is wrong with the others' setup='quorumd-setup writes that file'
 checked 0 ''
 checked 0 '' IMAGE=large
-checked 1 "$no no such image: none" IMAGE=none
-checked 1 "$no 0 image(s) of this cluster, and 1 are needed" IMAGE=other
+mount='Mount its file system or start its server, and start this again'
+checked 1 "$no no such image: none. $mount" IMAGE=none
+checked 1 "$no 0 image(s) of this cluster, and 1 are needed: $others" IMAGE=other
 same "$(head -n 1 errors)" 'other: warning: the image is for 1 nodes, and the settings have 3'
-checked 1 "$no 0 image(s) of this cluster, and 1 are needed" IMAGE=empty
-checked 1 "$no no such image: d,e,f" IMAGE=d,e,f
+checked 1 "$no 0 image(s) of this cluster, and 1 are needed: $others" IMAGE=empty
+checked 1 "$no no such image: d,e,f. $mount" IMAGE=d,e,f
 checked 0 '' COMMAND=node3 IMAGE=d,e,f
 checked 0 'node 2 goes on without none' COMMAND=node3 IMAGE=d,none,f
 checked 0 'node 2 goes on without none' COMMAND=node3 IMAGE=d,none,f WAIT=2
@@ -75,15 +76,15 @@ same "$(cat errors)" $'node 2 waits for none\nnode 2 goes on without none'
 checked 0 'node 2 waits for late' COMMAND=node3 IMAGE=d,late,f WAIT=60
 rm late
 checked 0 'empty: warning: sector 0 is no header: the file is no image' COMMAND=node3 IMAGE=d,empty,f
-checked 1 "$no no such image: none none2" COMMAND=node3 IMAGE=d,none,none2
-checked 1 "$no 1 image(s) of this cluster, and 2 are needed" COMMAND=node3 IMAGE=d,empty,other
+checked 1 "$no no such image: none none2. $mount" COMMAND=node3 IMAGE=d,none,none2
+checked 1 "$no 1 image(s) of this cluster, and 2 are needed: $others" COMMAND=node3 IMAGE=d,empty,other
 [ ! -e none ] && [ ! -e none2 ] && [ ! -e d,e,f ]
-checked 1 "$no COMMAND is node or node3, and not replay" COMMAND=replay
-checked 1 "$no node-2.env names no IMAGE" IMAGE=
-checked 1 "$no node-2.env names no WATCHDOG" WATCHDOG=
-checked 1 "$no node-2.env names no RESOURCE" RESOURCE=
-checked 1 "$no $PWD/absent is empty or not there" SETTINGS="$PWD/absent"
-checked 1 "$no quorumd@1.service is a node of this host" UNITS='quorumd@1.service loaded active running A
+checked 1 "$no COMMAND of node-2.env is node or node3, and not replay" COMMAND=replay
+checked 1 "$no node-2.env names no IMAGE: $setup" IMAGE=
+checked 1 "$no node-2.env names no WATCHDOG: $setup" WATCHDOG=
+checked 1 "$no node-2.env names no RESOURCE: $setup" RESOURCE=
+checked 1 "$no $PWD/absent is empty or not there: quorumd-setup writes it" SETTINGS="$PWD/absent"
+checked 1 "$no quorumd@1.service is a node of this host, which has one: stop that one first, or this one is not of this host" UNITS='quorumd@1.service loaded active running A
 quorumd@2.service loaded activating start B
 '
 checked 0 '' UNITS='quorumd@2.service loaded activating start B
@@ -95,15 +96,17 @@ checked 0 '' OPTIONS='--start-mode 1'
 checked 1 "$no start mode 1, and its mailbox is neither empty nor an exit: quorumd message --image d --id 2 --kind clear" OPTIONS='--start-mode 1'
 checked 0 '' OPTIONS='--start-mode 0'
 # boots that were halted
+causes=(- 'the image was not read' 'it is no image of this cluster' 'the times of the image are not safe' 'its slot was not written' 'its mailbox was not emptied'
+    'its boots are counted to the end' 'a message was in its mailbox, and start mode is 1')
 for cause in 2 3 6 7; do
     echo "fault BootHalted $cause" > state/halted-2
-    checked 1 "$no its last boot ended with 'fault BootHalted $cause'. Look at the image, and remove $PWD/state/halted-2"
+    checked 1 "$no its last boot ended with 'fault BootHalted $cause': ${causes[$cause]}. Look at the image, and remove $PWD/state/halted-2"
 done
 for cause in 1 4 5; do
     printf "fault BootHalted $cause\n%.0s" 1 2 3 4 > state/halted-2
     checked 0 ''
     echo "fault BootHalted $cause" >> state/halted-2
-    checked 1 "$no its last boot ended with 'fault BootHalted $cause'. Look at the image, and remove $PWD/state/halted-2"
+    checked 1 "$no its last boot ended with 'fault BootHalted $cause': ${causes[$cause]}. Look at the image, and remove $PWD/state/halted-2"
 done
 rm state/halted-2
 
@@ -116,17 +119,17 @@ device() {
     echo "$2" > $null/nowayout
     echo "$3" > $null/options
 }
-real=WATCHDOG_IS_NO_DEVICE=no
-checked 1 "$no $PWD/d: a file or a pipe: it resets nothing" $real WATCHDOG="$PWD/d"
-checked 1 "$no $PWD/absent: it cannot be looked at" $real WATCHDOG="$PWD/absent"
-checked 1 "$no /dev/null: its time cannot be read: perhaps it is no watchdog, and resets nothing" $real
+real=WATCHDOG_IS_NO_DEVICE=no device='WATCHDOG of node-2.env names the device: /dev/watchdog, or modprobe softdog'
+checked 1 "$no $PWD/d: a file or a pipe: it resets nothing. $device" $real WATCHDOG="$PWD/d"
+checked 1 "$no $PWD/absent: it cannot be looked at. $device" $real WATCHDOG="$PWD/absent"
+checked 1 "$no /dev/null: its time cannot be read: perhaps it is no watchdog, and resets nothing. $device" $real
 device 6 0 0x8180
-checked 1 "$no /dev/null: driver Made, time 6 s, nowayout 0: its time is 6 s, the image says 5000 ms" $real
+checked 1 "$no /dev/null: driver Made, time 6 s, nowayout 0: its time is 6 s, the image says 5000 ms. $device" $real
 device 5 0 0x8180
 checked 0 '' $real
-checked 1 "$no RuntimeWatchdogSec= of systemd feeds the watchdog too" $real RUNTIME=30000000
+checked 1 "$no RuntimeWatchdogSec= of systemd feeds the watchdog too: set it to 0 in /etc/systemd/system.conf, and systemctl daemon-reexec" $real RUNTIME=30000000
 device 5 0 0x8080
-checked 1 "$no /dev/null: driver Made, time 5 s, nowayout 0: it has no magic close: it stops where the program is killed" $real
+checked 1 "$no /dev/null: driver Made, time 5 s, nowayout 0: it has no magic close: it stops where the program is killed. $device" $real
 device 5 1 0x8080
 checked 0 'node 2: /dev/null: driver Made, time 5 s, nowayout 1: nowayout is 1: also after a node that left, it resets the machine' $real
 

@@ -35,8 +35,8 @@ def in_place_of_a_folder(image):
 class ShownCluster(TripleCluster):
     """The same, whose node keeps a status file."""
 
-    def with_a_node(self):
-        return self.node(1, before=("--status", str(self.folder / "status.1.json")))
+    def with_a_node(self, *before):
+        return self.node(1, before=(*before, "--status", str(self.folder / "status.1.json")))
 
     def images_of(self):
         """On how many images its node runs, as its status file says it; 3 where that says nothing."""
@@ -65,6 +65,71 @@ def tells_what_is_lost():
     node = cluster.with_a_node()
     node.waits_for("start: ok")
     same("with three images", (news(node), cluster.images_of(), cluster.verdict()), ([], 3, (0, "quorumd healthy: 1 holds (no group)")))
+
+
+def emptied(image):
+    """A new file, of zeros."""
+    image.write_bytes(bytes(1 << 20))
+
+
+def tells_of(cluster, node, number):
+    """The node tells that it lost this image, once, and its status file and the verdict say so."""
+    node.waits_for("start: ok")
+    wait_for("it tells of image %d" % number, lambda: news(node) == [("image-lost", str(number))])
+    wait_for("its status file says so", lambda: cluster.images_of() == 2)
+    same("the verdict", cluster.verdict(), (1, "quorumd degraded: 1 holds; 1 runs on 2 of 3 images"))
+
+
+def tells_of_empty_ones():
+    """A new and empty image is none, with a word of a machine and without; nor is one whose bytes are others while the node runs."""
+    for name, before in ("empty", ()), ("empty-closed", ("--open",)):
+        cluster = ShownCluster(name, ids=(1,))
+        emptied(cluster.images[2])
+        node = cluster.with_a_node(*before)
+        tells_of(cluster, node, 3)
+        no_image = ["%s: no image: its first sector is no header of version 2" % cluster.images[2]]
+        same("it said first", node.said()[:1], no_image if before else [node.opened() + "ok"])
+        time.sleep(3 * LOOP)
+        same("and once", news(node), [("image-lost", "3")])
+    cluster = ShownCluster("other-bytes", ids=(1,))
+    node = cluster.with_a_node()
+    node.waits_for("start: ok")
+    overwritten(cluster.images[1])
+    tells_of(cluster, node, 2)
+
+
+def has_open(node, image):
+    """Whether a node has this file open."""
+    found = os.stat(image)
+    for descriptor in os.scandir("/proc/%d/fd" % node.process.pid):
+        try:
+            about = descriptor.stat()
+        except OSError:  # it was closed
+            continue
+        if (about.st_dev, about.st_ino) == (found.st_dev, found.st_ino):
+            return True
+    return False
+
+
+def opens_later():
+    """An image that is not there, or empty, is tried again each loop, and opened once it has the header of the others."""
+    for name, way in ("later-folder", in_place_of_a_folder), ("later-empty", emptied):
+        cluster = ShownCluster(name, ids=(1,))
+        late, whole = cluster.images[0], cluster.images[0].read_bytes()
+        way(late)
+        node = cluster.with_a_node("--open")
+        tells_of(cluster, node, 1)
+        time.sleep(2 * LOOP)
+        if late.is_dir():
+            late.rmdir()
+        emptied(late)
+        time.sleep(2 * LOOP)
+        same("an empty one is open", has_open(node, late), False)
+        late.write_bytes(whole)
+        wait_for("it is opened", lambda: has_open(node, late))
+        is_fed(cluster)
+        cluster.message(1, "exit", images=cluster.images[1:])
+        same("answer", node.end(), (0, "left clean\n"))
 
 
 def others(cluster, lost):
@@ -237,6 +302,6 @@ def one_image_with_commas():
     same("answer", node.end(), (0, "turns 40 up holds=yes quorate=yes 1/1 why=holding\n"))
 
 
-try_all(tells_what_is_lost, before_the_start, a_folder_before_the_start, while_it_runs, takes_over, a_message_on_one_image, two_lost_before_the_start,
+try_all(tells_what_is_lost, tells_of_empty_ones, opens_later, before_the_start, a_folder_before_the_start, while_it_runs, takes_over, a_message_on_one_image, two_lost_before_the_start,
         headers_that_differ, two_lost_while_it_runs, one_image_with_commas)
 try_all(no_rights)

@@ -68,6 +68,24 @@ def each_says_who_holds():
     same("names of who was fenced", names(nodes[2], "fence-written"), {"db1"})
 
 
+def a_standby_leaves():
+    """It comes to its end within one turn: the others are told that it left."""
+    cluster = TellingCluster("leaves")
+    nodes = {ident: cluster.teller(ident) for ident in IDS}
+    cluster.says(1, (0, "quorumd healthy: db1 holds (no group)"))
+    cluster.message(3, "exit")
+    same("its end", nodes[3].end(), (0, "left clean\n"))
+    for ident in (1, 2):
+        peers = {peer["id"]: peer for peer in json.loads(cluster.file(ident).read_text())["peers"]}
+        same("it told before that", peers[3]["told"]["holds"], False)
+
+    def is_told(ident):
+        peers = {peer["id"]: peer for peer in json.loads(cluster.file(ident).read_text())["peers"]}
+        return peers[3]["told"]["leaving"]
+    for ident in (1, 2):
+        wait_for("node %d was told that node 3 left" % ident, lambda ident=ident: is_told(ident))
+
+
 def another_key():
     cluster = TellingCluster("keys")
     nodes = [cluster.teller(1), cluster.teller(2), cluster.teller(3, key="other")]
@@ -141,4 +159,4 @@ def a_liar():
     nodes[1].kill(signal.SIGKILL)
 
 
-try_all(each_says_who_holds, another_key, a_group, a_liar)
+try_all(each_says_who_holds, a_standby_leaves, another_key, a_group, a_liar)

@@ -125,7 +125,7 @@ def block_devices():
     for before in [], ["--open"]:
         same("node", stage.run(before, image=device), (8, "fault EnvFault\n", [line]))
     done = subprocess.run([live.QUORUMD, "list", "--image", device], capture_output=True, text=True, check=False)
-    same("list", (done.returncode, done.stdout, done.stderr), (8, "fault EnvFault\n", "quorumd: %s\n" % line))
+    same("list", (done.returncode, done.stdout, live.without_advice(done.stderr)), (8, "fault EnvFault\n", "quorumd: %s\n" % line))
 
 
 try_all(refusals_in_order, watchdogs, without_a_word, block_devices)

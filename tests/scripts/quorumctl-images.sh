@@ -7,7 +7,8 @@
 ctl() {
     local wanted=$1 text=$2 status=0
     shift 2
-    "$QUORUMCTL" "$@" > got 2> errors || status=$?
+    "$QUORUMCTL" "$@" > got 2> spoken || status=$?
+    grep -v -e ' IMAGE.md of the documentation ' -e ' has the ids of its nodes$' spoken > errors || true
     same "$* ends with $status and says $(cat got errors)" "$* ends with $wanted and says $(printf "$text")"
 }
 
@@ -28,6 +29,7 @@ cmp disk whole
 # another cluster
 printf 'nodelist {\nnode {\nnodeid: 1\n}\nnode {\nnodeid: 2\n}\nnode {\nnodeid: 3\n}\n}\n' > three.conf
 ctl 1 "${lines}warning: the image is for 2 nodes, and the settings have 3\n" check --image disk < three.conf
+same "$(cat spoken)" 'quorumctl: disk: give the image and the text of one cluster; IMAGE.md of the documentation says what mends an image'
 printf 'nodelist {\nnode {\nnodeid: 1\n}\nnode {\nnodeid: 3\n}\n}\n' > other.conf
 ctl 1 "${lines}warning: sector 3 has the id 2, and the settings have 3 there\n" check --image disk < other.conf
 ctl 3 'fault: nodelist: there is no node section\n' check --image disk <<< '# nothing'
@@ -80,9 +82,10 @@ mkdir folder
 ctl 1 'warning: sector 0 cannot be read\n' check --image folder < /dev/null
 ctl 1 'fault: sector 0 cannot be read\n' list --image folder
 # nothing is made
-ctl 8 'quorumctl: absent: No such file or directory (os error 2)\n' check --image absent < /dev/null
-ctl 8 'quorumctl: absent: No such file or directory (os error 2)\n' list --image absent
-ctl 8 'quorumctl: absent: No such file or directory (os error 2)\n' wait --image absent --id 1
+absent='quorumctl: absent: No such file or directory (os error 2); look at the path, and whether its file system is mounted\n'
+ctl 8 "$absent" check --image absent < /dev/null
+ctl 8 "$absent" list --image absent
+ctl 8 "$absent" wait --image absent --id 1
 [ ! -e absent ]
 
 # an image that another program is making
@@ -113,6 +116,7 @@ passed=$((($(date +%s%N) - begin) / 1000000))
 ctl 0 'the mailbox is empty\n' wait --image disk --id 2
 wait
 ctl 16 'fault: no slot of the image has the id\n' wait --image disk --id 3
+same "$(cat spoken)" 'quorumctl: disk: quorumctl list --image disk has the ids of its nodes'
 
 # an exit that the node does not take: it runs on, it boots, or the exit is cleared. `slot CLEAN` writes the slot of node 1 in incarnation 7
 slot() {
@@ -147,5 +151,5 @@ ctl 1 'fault: sector 0 is no header: the file is no image\n' wait --image disk -
 cp whole disk
 reads='quorumctl: a corosync.conf is read from the terminal; Ctrl-D on a line of its own ends it'
 same "$(python3 -B "$TOP/tests/parts/terminal.py" "$QUORUMCTL" check --image disk)" "0 $reads"
-same "$(python3 -B "$TOP/tests/parts/terminal.py" "$QUORUMCTL" settings)" "3 $reads"
+same "$(python3 -B "$TOP/tests/parts/terminal.py" "$QUORUMCTL" settings | head -n 1)" "3 $reads"
 same "$(python3 -B "$TOP/tests/parts/terminal.py" "$QUORUMCTL" list --image disk)" '0 '

@@ -33,7 +33,7 @@ said 1 'a file or a pipe: it resets nothing' file
 said 1 'a file or a pipe: it resets nothing' pipe
 said 1 'neither a device nor a file' .
 said 1 'its time cannot be read: perhaps it is no watchdog, and resets nothing' /dev/null --sys absent
-said 8 'quorumctl: absent: No such file or directory (os error 2)' absent
+said 8 'quorumctl: absent: No such file or directory (os error 2); look at the path, and whether its file system is mounted' absent
 # the words
 usage='usage: watchdog PATH [--watchdog 1..3600000] [--sys FOLDER]'
 said 2 "quorumctl: a word is missing; $usage"

@@ -17,6 +17,15 @@ for command in settings timing watchdog check list wait status history standby u
         "$command $(printf '%s\n' "$page" | sed -n 's/.*Fl \(-[a-z-]*\).*/-\1/p' | options)"
 done
 
+# `help` is `--help`; `--help` behind a command has its lines of that, and an example of it
+"$QUORUMCTL" help | cmp text -
+for command in settings timing watchdog check list wait status history standby unstandby fit move group; do
+    "$QUORUMCTL" $command --help > one <&-
+    same "$(head -n 2 one)" "$(grep -A 1 -e "^quorumctl $command\( .*\)*\$" text)"
+    same "$(sed -n 3p one)" 'for example:'
+    grep -q "^    .*quorumctl $command\>" <(sed -n 4p one)
+done
+
 # refused 'WHAT' WORD..: status 2, of `status` 3, nothing on standard output, and this line on standard error
 refused() {
     local what=$1 status=0 wanted=2
@@ -25,8 +34,14 @@ refused() {
     "$QUORUMCTL" "$@" > got 2> errors < /dev/null || status=$?
     same "$status $(cat got errors)" "$wanted quorumctl: $what"
 }
-refused 'there is no command'
-refused '"lists" is no command' lists
+commands=$(sed -n -e 's/^quorumctl \([a-z][a-z0-9-]*\)\( .*\)*$/\1/p' -e 's/^    /: /p' text | paste -sd '\0\n' | sed 's/^/    /')
+refused "there is no command; the commands are
+$commands
+quorumctl COMMAND --help has the words of one and an example, quorumctl --help those of all"
+refused '"lists" is no command; did you mean list?' lists
+refused '"stat" is no command; did you mean status?' stat
+refused '"create" is no command; it is a command of quorumd' create --image disk
+refused '"--json" is no command; a command stands before its options' --json status
 refused '"x" is not taken; usage: settings' settings x
 refused '--image is missing; usage: list --image PATH [--json]' list --json
 refused '"--json" is not taken; usage: list --image PATH [--json]' list --json --image d --json
@@ -37,6 +52,7 @@ usage='usage: status [--json|--prometheus|--watch] [--image PATH] [FILE..]'
 refused "no node was started on this host since its boot: systemctl status 'quorumd@*'" status
 refused "no node was started on this host since its boot: systemctl status 'quorumd@*'" status --image disk --json
 refused "\"--xml\" is not taken; $usage" status --xml file
+refused "\"--jsno\" is not taken; $usage; did you mean --json?" status --jsno
 refused "\"--watch\" is not taken; $usage" status --json --watch file
 refused "\"--json\" is not taken; $usage" status --json file --json
 refused "a value is missing at the end, PATH; $usage" status file --image

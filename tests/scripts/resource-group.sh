@@ -61,7 +61,9 @@ said 1 'quorumd-resource: HERE/conf: u17 is one resource too many: a group has a
 echo 'AGENT=service x.service' > agent.env
 ENABLED=enabled said 1 'quorumd-resource: x.service: x.service is enabled: a boot would start it' '' check
 echo 'AGENT=service' > agent.env
-said 1 'quorumd-resource: HERE/agent.env: AGENT=service is neither `group` nor `service UNIT`' '' check
+said 1 'quorumd-resource: HERE/agent.env: AGENT=service is none of `group`, `service UNIT` and `none`' '' check
+echo 'AGENT=none' > agent.env
+said 0 '' '' check
 echo 'AGENT=group' > agent.env
 
 # without a supervisor

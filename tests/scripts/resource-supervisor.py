@@ -372,7 +372,20 @@ def one_unit():
     one.end()
 
 
-SCENES = (up_and_down, forgotten, failures, in_vain, unfit, moves, a_start_goes_on, gone_askers, files_that_cannot_be_written, file_at_fault, many_probes, one_unit)
+def no_resources():
+    """AGENT=none has nothing to stop, and starts nothing."""
+    one = Running(agent="none")
+    one.until(state="down", resources=[], fine=True)
+    same(ask("stop"), "ok")
+    same(ask("start"), "no refused")
+    one.until(state="failed", fine=False)
+    assert "AGENT=none: this host has no resources" in (HERE / "log").read_text()
+    same(ask("stop"), "ok")
+    one.until(state="down", held=False)
+    one.end()
+
+
+SCENES = (up_and_down, forgotten, failures, in_vain, unfit, moves, a_start_goes_on, gone_askers, files_that_cannot_be_written, file_at_fault, many_probes, one_unit, no_resources)
 
 
 def play(scene):

@@ -44,7 +44,7 @@ disk=$PWD/disk
 
 # words
 setup 2 "$usage"
-same "$(head -n 1 said)" 'quorumd-setup: no corosync.conf'
+same "$(head -n 1 said)" 'quorumd-setup: no corosync.conf: the text of the cluster stands first'
 for words in three.conf '--image /d' 'three.conf --image' 'three.conf --image d' 'three.conf --image /d,/e' 'three.conf --image /d,/e,/f,/g' 'three.conf --image /d,,/f' \
     'three.conf --image /d --id 0' 'three.conf --image /d --id x' 'three.conf --image /d --id 99999999999' 'three.conf --image /d --port 80' \
     'three.conf --image /d --watchdog dog' 'three.conf --image /d;e' 'three.conf --image nbd:' 'three.conf --image /d,nbd:x,e' 'three.conf --image ftp:x' 'three.conf --image /d --watchdog nbd:x' 'three.conf --image /d other' 'three.conf --image /d --id' \
@@ -57,7 +57,7 @@ setup 2 "$usage" three.conf --image "/a b"
 # the settings text, and the id of this host in it
 for conf in absent.conf etc; do
     setup 2 "$usage" $conf --image "$disk"
-    same "$(head -n 1 said)" "quorumd-setup: $conf is no file that can be read"
+    same "$(head -n 1 said)" "quorumd-setup: $conf is no file that can be read: look at its path, as root"
 done
 echo 'nodelist {' > wrong.conf
 setup 1 "$("$QUORUMCTL" settings < wrong.conf | sed '1s/^/quorumd-setup: wrong.conf: /' | tail -n 1)" wrong.conf --image "$disk"
@@ -71,7 +71,7 @@ setup 1 'quorumd-setup: HERE/disk is not there: --create on one host makes it' h
 # the id of this host
 setup 1 'quorumd-setup: none.conf has not one node with a name or an address of this host: say --id N' none.conf --image "$disk" --key key
 setup 1 'quorumd-setup: both.conf has not one node with a name or an address of this host: say --id N' both.conf --image "$disk" --key key
-setup 1 'quorumd-setup: three.conf has no node 4' three.conf --image "$disk" --id 4 --key key
+setup 1 'quorumd-setup: three.conf has no node 4: --id is one of its nodeids, 1 2 3' three.conf --image "$disk" --id 4 --key key
 # names of hosts
 named() {
     printf 'nodelist {\n node {\n  nodeid: 1\n  ring0_addr: 192.0.2.7\n }\n node {\n  nodeid: 2\n  ring0_addr: %s\n }\n node {\n  nodeid: 3\n  name: third\n  ring0_addr: gamma.example\n }\n}\n' "$1"
@@ -140,13 +140,13 @@ rm -r etc/quorumd/corosync.conf etc/quorumd/node-2.env etc/systemd
 setup 1 'quorumd-setup: absent is no file: a key is made by: (umask 077; head -c 32 /dev/urandom > key)' three.conf --image "$disk" --id 3 --key absent
 rm key
 (umask 077; head -c 31 /dev/zero > key)
-setup 1 'quorumd-setup: key: 31 bytes, a key has 32 to 4096' three.conf --image "$disk" --id 3 --key key
+setup 1 'quorumd-setup: key: 31 bytes, a key has 32 to 4096; copy that of another host' three.conf --image "$disk" --id 3 --key key
 head -c 32 /dev/zero > key
 chmod 644 key
-setup 1 'quorumd-setup: key: others may read it' three.conf --image "$disk" --id 3 --key key
+setup 1 'quorumd-setup: key: others may read it; chmod 600 key' three.conf --image "$disk" --id 3 --key key
 chmod 600 key
 sed '/ring0_addr: 192.0.2.8/d' three.conf > part.conf
-setup 1 'quorumd-setup: part.conf: node 2 has no ring0_addr' part.conf --image "$disk" --id 3 --key key
+setup 1 'quorumd-setup: part.conf: node 2 has no ring0_addr; each node has an address of its own on each network' part.conf --image "$disk" --id 3 --key key
 [ ! -e etc/quorumd/key ]
 setup 0 'node 3 of three.conf is set up: systemctl enable --now quorumd@3.service' three.conf --image "$disk" --id 3 --key key
 cmp key etc/quorumd/key

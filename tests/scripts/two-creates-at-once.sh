@@ -42,7 +42,7 @@ for pair in $(seq 60); do
     sed -i '/: nothing was there, and an empty file was made$/d' 1.errors 2.errors
     for errors in 1.errors 2.errors; do
         [ -s "$errors" ] || continue
-        same "$(cat "$errors")" 'quorumd: disk: another program has it open'
+        same "$(head -n 1 "$errors")" 'quorumd: disk: another program has it open'
         refused=$((refused + 1))
     done
 done

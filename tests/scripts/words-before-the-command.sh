@@ -83,12 +83,12 @@ for command in node node3 node-logged node3-logged arbiter; do
         says '--seal-meaning wants --links and --key' $words --seal-meaning $command
     done
 done
-says '--links wants --key or --open' --links conf --seal-meaning node
-says '--key: more than three' --key one --key two --key three --key four help
-says '--open beside --key' --open --key one help
-says '--open beside --key' --key one --open help
-says '--links wants --key or --open' --links conf help
-says '--links wants --key or --open' --halt file --links conf
+says '--links wants --key or --open; --key FILE seals what the nodes say' --links conf --seal-meaning node
+says '--key: more than three; leave out the oldest' --key one --key two --key three --key four help
+says '--open beside --key; one of them, and a key where strangers reach the network' --open --key one help
+says '--open beside --key; one of them, and a key where strangers reach the network' --key one --open help
+says '--links wants --key or --open; --key FILE seals what the nodes say' --links conf help
+says '--links wants --key or --open; --key FILE seals what the nodes say' --halt file --links conf
 for word in --links --key --halt --status --leave-file --standing-file --group; do
     says "$word: its value is missing" "$word"
     for next in --links --key --open --seal-meaning --halt --status --leave-file --standing-file --group --blank --anew; do
@@ -97,22 +97,27 @@ for word in --links --key --halt --status --leave-file --standing-file --group; 
 done
 
 # key files
-says 'none: No such file or directory (os error 2)' --key none help
-says 'short: 31 bytes, a key has 32 to 4096' --key short help
-says 'long: 4097 bytes, a key has 32 to 4096' --key one --key long help
-says 'group: others may read it' --key group help
-says 'others: others may read it' --key others help
-says 'folder: others may read it' --key folder help
+says 'none: No such file or directory (os error 2); look at the path, and whether its file system is mounted' --key none help
+says 'short: 31 bytes, a key has 32 to 4096; copy that of another host' --key short help
+says 'long: 4097 bytes, a key has 32 to 4096; copy that of another host' --key one --key long help
+says 'group: others may read it; chmod 600 group' --key group help
+says 'others: others may read it; chmod 600 others' --key others help
+says 'folder: a key is a regular file' --key folder help
 says 'same: the same key twice' --key one --key same help
 says 'one: the same key twice' --key one --key two --key one help
 says 'same: the same key twice' --key two --key one --key same help
+
+# untaken FAULT: the settings text is at fault
+untaken() {
+    refused "$1; quorumctl settings < other shows its lines"
+}
 
 # the settings text
 refused() {
     says "other: $1" --open --links other help
 }
-says 'none: No such file or directory (os error 2)' --open --links none help
-says 'folder: Is a directory (os error 21)' --open --links folder help
+says 'none: No such file or directory (os error 2); look at the path, and whether its file system is mounted' --open --links none help
+says 'folder: Is a directory (os error 21); name a file in it' --open --links folder help
 conf '' > other
 refused 'node 2 has no ring0_addr'
 for name in host.example host 192.0.2 192.0.2.256 fe80::1%eth0 '[2001:db8::2]' 192.0.2.2:7400 0.0.0.0 :: 224.0.0.1 ff02::1; do
@@ -126,11 +131,11 @@ refused 'nodes 2 and 3 have one address'
 conf 2001:db8::2 > other
 refused 'nodes 1 and 2 have addresses of two families'
 conf 192.0.2.2 | sed 's/nodeid: 2/nodeid: x/' > other
-refused 'BadConf BadNumber key nodeid'
+untaken 'BadConf BadNumber key nodeid'
 conf 192.0.2.2 | sed 's/nodeid: 2/nodeid 2/' > other
-refused 'BadConf BadLine line 7'
+untaken 'BadConf BadLine line 7'
 conf 192.0.2.2 | sed 's/nodeid: 2/nodeid: 1/' > other
-refused 'BadConf RepeatedId id 1'
+untaken 'BadConf RepeatedId id 1'
 conf 192.0.2.2 | sed 's/nodeid: 2/nodeid: 2\n ring1_addr: 198.51.100.2/' > other
 refused 'ring1_addr: node 1 has none'
 

@@ -100,15 +100,24 @@ refused() {
 }
 create='create --image PATH [--timing W,M,L,R,S]'
 message='message --image PATH --id 1..4294967295 --kind clear|test|reset|off|exit|crashdump'
-refused 'there is no command'
-refused '"" is no command' ''
-refused '"counts" is no command' counts
-refused '"x\ny" is no command' $'x\ny'
+commands=$("$QUORUMD" --help | sed -n -e 's/^quorumd \([a-z][a-z0-9-]*\)\( .*\)*$/\1/p' -e 's/^    /: /p' | paste -sd '\0\n' | sed 's/^/    /')
+refused "there is no command; the commands are
+$commands
+quorumd COMMAND --help has the words of one and an example, quorumd --help those of all"
+refused '"" is no command; quorumd --help lists the commands' ''
+refused '"counts" is no command; did you mean count?' counts
+refused '"cuont" is no command; did you mean count?' cuont
+refused '"mig" is no command; did you mean migrate?' mig
+refused '"history" is no command; it is a command of quorumctl' history
+refused '"failover" is no command; quorumd --help lists the commands' failover
+refused '"--image" is no command; a command stands before its options' --image d list
+refused '"--lnks" is no command; did you mean --links?' --lnks conf list
+refused '"x\ny" is no command; quorumd --help lists the commands' $'x\ny'
 refused '"x" is not taken; usage: count' count x
 refused "--image is missing; usage: $create" create
 refused "a value is missing at the end, PATH; usage: $create" create --image
 refused "\"--image\" is not taken; usage: $create" create --image d --image e
-refused "\"--imag\" is not taken; usage: $create" create --timing 1,2,3,4,5 --imag d
+refused "\"--imag\" is not taken; usage: $create; did you mean --image?" create --timing 1,2,3,4,5 --imag d
 refused "\"5000,10000,1000,2000\" is not taken; usage: $create" create --image d --timing 5000,10000,1000,2000
 refused "\"empty\" is not taken; usage: $message" message --image d --id 1 --kind empty
 refused "\"0\" is not taken; usage: $message" message --kind off --id 0 --image d
@@ -122,7 +131,9 @@ refused '"xml" is not taken; usage: status [--form text|json]' status --form xml
 refused '"200001" is not taken; usage: soak SEED:0.. EVENTS:1..200000' soak 1 200001
 refused 'a word is missing; usage: soak SEED:0.. EVENTS:1..200000' soak 1
 refused '"me" is not taken; usage: help' help me
-refused '"--help" is not taken; usage: count' count --help
+refused '"--help" is not taken; usage: count' count --help x
+refused "\"--key\" is not taken; usage: $create; it stands before the command" create --key k --image d
+refused "\"rset\" is not taken; usage: $message; did you mean reset?" message --image d --id 1 --kind rset
 expect 2 'fault Usage\n' < /dev/null
 expect 2 'fault Usage\n' '' < /dev/null
 same "$(ls)" ''

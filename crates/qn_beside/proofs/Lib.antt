@@ -1,3 +1,7 @@
+mod Device
+mod FasterRows
+mod MetRows
+mod MetRun
 pub mod ArbiterSteps
 pub mod Going
 pub mod Leasing

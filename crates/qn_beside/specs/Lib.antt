@@ -1,2 +1,4 @@
 pub mod Beside
+pub mod Faster
 pub mod Laws
+pub mod Met

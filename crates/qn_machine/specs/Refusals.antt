@@ -1,8 +1,8 @@
 -- When a line says how many datagrams were not handed on (this project's profile).
 use Rattle.std.specs.Prelude.{ℕ, ◌+◌, ◌&&◌, Bool, true, nat_le, nat_lt, Option, Some, None, if◌then◌else◌}
 use Rattle.qn_seal.specs.declared.receiver.Refused.TheVariants.{Unsealed, Astray, Old}
-use Rattle.qn_machine.specs.declared.admission.Reason.{Reason}
-use Rattle.qn_machine.specs.declared.admission.Reason.TheVariants.{Elsewhere, Sealed}
+use Rattle.qn_peers.specs.declared.admission.Reason.{Reason}
+use Rattle.qn_peers.specs.declared.admission.Reason.TheVariants.{Elsewhere, Sealed}
 use Rattle.qn_machine.specs.declared.refusals.Refusals.{Refusals}
 use Rattle.qn_io.specs.Counts.{one_more}
 

@@ -139,17 +139,18 @@ impl Disk {
         };
         let mut found: u32 = 0;
         let mut least = EdgeTimes::longest();
+        let mut header = None;
         'images: for image in &mut self.images {
-            match header_times(rt, errors, edge, image) {
-                Some((times, header)) => {
+            match header_times(rt, errors, edge, image, &mut header) {
+                Some(times) => {
                     found = found.saturating_add(1);
                     least = least.least(times);
-                    self.header = self.header.or(Some(header));
                 }
                 None if edge.absent() == Absent::Refused => *image = None,
                 None => {}
             }
         }
+        self.header = header;
         if found < wanted {
             Err(Failed)
         } else {
@@ -197,13 +198,26 @@ impl Disk {
         R: Files<File = File> + Net<Stream = TcpStream> + Clock + AllocGlobal,
         E: Eprint,
     >(&mut self, rt: &R, errors: &E) {
-        let Some(again) = &mut self.again else {
+        let Some(mut again) = self.again.take() else {
             return;
         };
+        if opened(&self.images) < 3 {
+            self.try_again(rt, errors, &mut again);
+        }
+        self.again = Some(again);
+    }
+
+    /// The same, where the moment has come, and sets the next one.
+    fn try_again<R: Files<File = File> + Net<Stream = TcpStream> + Clock + AllocGlobal, E: Eprint>(
+        &mut self,
+        rt: &R,
+        errors: &E,
+        again: &mut Again,
+    ) {
         let Ok(began) = rt.monotonic() else {
             return;
         };
-        if opened(&self.images) == 3 || began < again.from {
+        if began < again.from {
             return;
         }
         if let Ok((first, second, third)) = three_paths(again.word.as_str()) {
@@ -471,14 +485,23 @@ fn tell<C: Clock, E: Eprint>(
     reported(errors, name, Err(error))
 }
 
-/// The times of the header of an image and the header itself, where it is open and has one. Where a word of a machine was said before the command
-/// the header is judged, and a line says why it is not taken.
+/// Keeps a header, where none is kept.
+fn keep_first(header: &mut Option<[u8; SECTOR]>, sector: &[u8; SECTOR]) {
+    if header.is_none() {
+        let copy = *sector;
+        *header = Some(copy);
+    }
+}
+
+/// The times of the header of an image, where it is open and has one, which is kept where it is the first. Where a word of a machine was said before
+/// the command the header is judged, and a line says why it is not taken.
 fn header_times<R: Files<File = File> + Net<Stream = TcpStream> + Clock, E: Eprint>(
     rt: &R,
     errors: &E,
     edge: &Edge,
     image: &mut Option<Image>,
-) -> Option<(EdgeTimes, [u8; SECTOR])> {
+    header: &mut Option<[u8; SECTOR]>,
+) -> Option<EdgeTimes> {
     let image = image.as_mut()?;
     let mut sector = [0; SECTOR];
     let read = image.read(rt, 0, &mut sector);
@@ -487,12 +510,16 @@ fn header_times<R: Files<File = File> + Net<Stream = TcpStream> + Clock, E: Epri
         Absent::Made => {
             read.ok()?;
             let (_, timing) = get_header(&sector)?;
-            Some((EdgeTimes::of(&timing), sector))
+            keep_first(header, &sector);
+            Some(EdgeTimes::of(&timing))
         }
         Absent::Refused => {
             reported(errors, name, read).ok()?;
             match times_of(&sector, edge.nodes()) {
-                Ok(times) => Some((times, sector)),
+                Ok(times) => {
+                    keep_first(header, &sector);
+                    Some(times)
+                }
                 Err(fault) => {
                     let _ = eprintln!(errors; "quorumd: {name}: {fault}");
                     None

@@ -1,4 +1,5 @@
 //! A file with which the host of a node asks it to leave.
+use qn_peers::LEAVE;
 use std::fs::File;
 use std::rt::Files;
 use std::time::Clock;
@@ -9,9 +10,6 @@ const LOOK: u64 = 500;
 
 /// What is handed to the node then: `QN`, a kind that no packet has, and 1.
 pub(crate) const REQUEST: [u8; 4] = [b'Q', b'N', LEAVE, 1];
-
-/// The kind of a request of the node's own host that it is to leave. No packet of a network has it.
-pub(crate) const LEAVE: u8 = 12;
 
 /// A file with which the host of a node asks it to leave, which is told once.
 #[derive(Drop)]

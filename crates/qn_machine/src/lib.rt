@@ -7,9 +7,7 @@
 #![tactic(auto)]
 
 mod absent_file;
-mod admission;
 mod agent;
-mod arrivals;
 mod blank;
 mod connection;
 mod deadline;
@@ -31,7 +29,6 @@ mod leave_file;
 mod named_file;
 mod nbd_image;
 mod network;
-mod peers;
 mod real;
 mod refusals;
 mod replaced_file;
@@ -52,12 +49,9 @@ mod waiting;
 mod watchdog;
 mod watchdog_look;
 
-pub use admission::{Admission, Reason, Sender};
-pub use arrivals::Arrivals;
 pub use edge::{Edge, Guard, Overwrites};
 pub use error_lines::Lines;
 pub use image_reader::ImageReader;
-pub use peers::{Destination, Peers};
 pub use real::RealEnv;
 pub use replaced_file::ReplacedFile;
 pub use standard::{StdSink, StdSource};

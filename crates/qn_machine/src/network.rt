@@ -2,12 +2,10 @@
 //! else is said; and on two networks two sockets of each node, over which each packet is sent.
 ghost use Rattle.std.specs.Prelude.{◌≤◌, IfOk, IfSome};
 
-use crate::admission::{ARBITER, Admission, Reason, Sender, is_double, is_vote_of_host};
 use crate::deadline::Deadline;
 use crate::edge::{Edge, Guard};
 use crate::error_lines::Lines;
 use crate::leave_file::{LeaveFile, REQUEST};
-use crate::peers::{Destination, Peers};
 use crate::refusals::Refusals;
 use crate::sealing::Sealing;
 use crate::socket::open_socket;
@@ -18,6 +16,9 @@ use arrayvec::ArrayVec;
 use qn_base::Rank;
 use qn_io::PACKET;
 use qn_links::{ArbiterPlace, Networks};
+use qn_peers::{
+    ARBITER, Admission, Destination, Peers, Reason, Sender, is_double, is_vote_of_host,
+};
 use qn_seal::{Receiver, Refused};
 use qn_shown::{get_told, put_told};
 use std::fs::File;

@@ -3,9 +3,9 @@ ghost use Rattle.std.specs.Prelude.{◌≡◌, ◌+◌, nat_lt};
 ghost use Rattle.qn_machine.specs.JournalLines.{all_refused, refusals_line};
 ghost use Rattle.qn_machine.specs.Refusals.{counted, is_due, is_minute_ago, refusals_after};
 
-use crate::admission::Reason;
 use crate::error_lines::Lines;
 use qn_event::{EventLine, EventName, Level, Moment};
+use qn_peers::Reason;
 use qn_seal::Refused;
 use std::time::Clock;
 

@@ -3,11 +3,11 @@
 ghost use Rattle.std.specs.Prelude.{◌≤◌, IfOk, IfSome};
 
 use crate::deadline::is_late;
-use crate::peers::Destination;
 use crate::socket::{Came, open_socket, send_to};
 use crate::waiting::Waiting;
 use qn_io::PACKET;
 use qn_links::Ring;
+use qn_peers::Destination;
 use std::io::{self, ErrorKind};
 use std::net::{Net, SocketAddr, UdpSocket};
 use std::os::fd::AsRawFd;

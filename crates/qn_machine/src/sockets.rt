@@ -1,10 +1,10 @@
 //! The sockets of one node or of the arbiter: one, or one on each of two networks.
 ghost use Rattle.std.specs.Prelude.{◌≤◌, IfOk, IfSome};
 
-use crate::peers::Destination;
 use crate::socket::{Came, LoneSocket};
 use crate::socket_pair::SocketPair;
 use qn_io::PACKET;
+use qn_peers::Destination;
 use std::io;
 use std::net::{Net, SocketAddr};
 use std::time::Duration;

@@ -2,8 +2,8 @@
 ghost use Rattle.std.specs.Prelude.{◌≡◌};
 ghost use Rattle.qn_machine.specs.StandingTexts.{packet_of, weight_in, word_in};
 
-use crate::admission::WORD;
 use qn_base::read_decimal;
+use qn_peers::WORD;
 use qn_shown::HostStanding;
 
 /// The most bytes of the file.

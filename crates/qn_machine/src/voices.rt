@@ -1,8 +1,8 @@
 //! What the nodes of a cluster tell one another of themselves, and what is known of the places that packets come from. No node decides by it:
 //! it is for whoever asks how the cluster is.
-use crate::arrivals::Arrivals;
 use qn_base::Rank;
 use qn_links::Ring;
+use qn_peers::Arrivals;
 use qn_shown::{Heard, HostStanding, Told};
 use std::cell::Cell;
 use std::net::SocketAddr;

@@ -7,10 +7,20 @@
 //! was not in company of its maker, and no member of which a Hello came was left out before three loops (`law_left_out`). So a
 //! machine is reset only where the maker of the view left it out (`law_resets_the_unheard`), and none is while each leader finds
 //! all others in company (`law_nobody_is_reset`). The rules are met by a run in which a reset is asked for (`law_reset_is_met`).
+//!
+//! By the worlds of joined runs: each look is by the loop's time of the image (`law_looks_by_the_image`), so nobody is reset while each
+//! leader hears all others within three loops of it (`law_nobody_heard_is_reset`). What a log holds runs, or a Stop of it is unanswered
+//! (`law_holders_run`). What is said of each joint is said of each moment between (`law_moments_are_of_joints`), so an owner that is
+//! well goes on running its resource (`law_owners_go_on`), as one does in a run that is given (`law_owner_is_well`).
 #![tactic(auto)]
 
 mod laws;
 mod looks;
+mod owners;
 
 pub use laws::{law_nobody_is_reset, law_reset_is_met, law_resets_the_unheard};
 pub use looks::{law_least_members_made_it, law_left_out, law_made_or_taken, law_views_stay};
+pub use owners::{
+    law_holders_run, law_looks_by_the_image, law_moments_are_of_joints, law_nobody_heard_is_reset,
+    law_owner_is_well, law_owners_go_on,
+};

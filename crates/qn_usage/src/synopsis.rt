@@ -14,6 +14,8 @@ pub struct Synopsis {
     pub reads: &'static str,
     /// What the command does, in a few words.
     pub does: &'static str,
+    /// A command line with it, as an operator types it.
+    pub example: &'static str,
 }
 
 /// What an option takes.
@@ -100,6 +102,6 @@ fn is_option(word: &str) -> bool {
 }
 
 /// A word of a synopsis without its brackets.
-fn bare(word: &str) -> &str {
+pub(crate) fn bare(word: &str) -> &str {
     word.trim_start_matches('[').trim_end_matches(']')
 }

@@ -54,7 +54,13 @@ fn check_by<R: Files<File = File> + Net<Stream = TcpStream> + Clock + Print + Ep
     let mut image = OpenImage::open(rt, path)?;
     let seen = look_at_image(rt.alloc(), &mut image, settings)?;
     say(rt, check_text(rt.alloc(), &seen, is_json)?.as_str())?;
-    Ok(status_of(seen.findings.as_slice()))
+    let status = status_of(seen.findings.as_slice());
+    if status == WRONG {
+        let _ = eprintln!(rt;
+            "quorumctl: {path}: give the image and the text of one cluster; IMAGE.md of the documentation says what mends an image"
+        );
+    }
+    Ok(status)
 }
 
 /// The exit status of a check by what it found.
@@ -188,7 +194,7 @@ pub fn wait<R: Files<File = File> + Net<Stream = TcpStream> + Clock + Print + Ep
     let id = id_of(options);
     let mut image = OpenImage::open(rt, path)?;
     let Some(timing) = timing_of(rt.alloc(), &mut image)? else {
-        return say_outcome(rt, &Outcome::NotImage, false);
+        return say_outcome(rt, path, &Outcome::NotImage, false);
     };
     let begin = steady_time().map_err(Trouble::System)?;
     let end = begin.saturating_add(Duration::from_millis(timing.msgwait));
@@ -197,7 +203,7 @@ pub fn wait<R: Files<File = File> + Net<Stream = TcpStream> + Clock + Print + Ep
         let is_over = steady_time().map_err(Trouble::System)? >= end;
         let outcome = outcome_at(rt.alloc(), &mut image, id)?;
         if is_over || !outcome.may_change() {
-            return say_outcome(rt, &outcome, was_exit);
+            return say_outcome(rt, path, &outcome, was_exit);
         }
         was_exit = was_exit || matches!(outcome, Outcome::Exit);
         pause(rt, LOOK)?;
@@ -268,9 +274,19 @@ fn id_of(options: &[String]) -> NodeId {
 }
 
 /// Says what became of a message, and gives the exit status.
-fn say_outcome(rt: &impl Print, outcome: &Outcome, was_exit: bool) -> Result<u8, Trouble> {
+fn say_outcome(
+    rt: &(impl Print + Eprint),
+    path: &str,
+    outcome: &Outcome,
+    was_exit: bool,
+) -> Result<u8, Trouble> {
     let (text, status) = outcome.said(was_exit);
     say(rt, text)?;
+    if let Outcome::UnknownNode = outcome {
+        let _ = eprintln!(rt;
+            "quorumctl: {path}: quorumctl list --image {path} has the ids of its nodes"
+        );
+    }
     Ok(status)
 }
 

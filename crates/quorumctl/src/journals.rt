@@ -1,8 +1,7 @@
 //! `history`: what the journals of the nodes tell, in the order of time.
-use crate::table::QUORUMCTL;
 use crate::trouble::{Trouble, say};
 use qn_control::History;
-use qn_usage::file_of;
+use qn_usage::{IS_TYPED, QUORUMCTL, file_of, is_typed};
 use std::alloc::Global;
 use std::fs::File;
 use std::io::Read;
@@ -15,16 +14,19 @@ const PIECE: usize = 4096;
 const MOST_LINE_BYTES: usize = 4096;
 
 /// `history`: the words are those of the command. Without a file standard input is read.
-pub fn history<R: Files<File = File> + Input + Print + AllocGlobal>(
+pub fn history<R: Files<File = File> + Input + Print + Eprint + AllocGlobal>(
     rt: &R,
     words: &[String],
 ) -> Result<u8, Trouble> {
     let mut history = History::new(rt.alloc());
-    if file_of(QUORUMCTL, words, 0).is_none() {
+    if file_of(QUORUMCTL.commands, words, 0).is_none() {
+        if is_typed(rt) {
+            let _ = eprintln!(rt; "quorumctl: a journal {IS_TYPED}");
+        }
         read_journal(rt.alloc(), &mut rt.reader(), &mut history)?;
     }
     for number in 0..words.len() {
-        let Some(path) = file_of(QUORUMCTL, words, number) else {
+        let Some(path) = file_of(QUORUMCTL.commands, words, number) else {
             break;
         };
         read_file(rt, path, &mut history)?;

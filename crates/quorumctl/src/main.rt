@@ -12,7 +12,6 @@ mod journals;
 mod open_image;
 mod status;
 mod status_file;
-mod table;
 mod texts;
 mod trouble;
 mod watchdog;
@@ -22,7 +21,10 @@ use group::group;
 use images::{check, list, wait};
 use journals::history;
 use qn_control::Request;
-use qn_usage::{USAGE, has_word, help_text, refusal_of, value_of, version_text, words_given};
+use qn_usage::{
+    QUORUMCTL, QUORUMD, Refusal, Synopsis, USAGE, command_help, has_word, help_text, hint_of,
+    overview, refusal_of, value_of, version_text, words_given,
+};
 use qn_verdict::Verdict;
 use status::status;
 use std::fs::File;
@@ -30,15 +32,12 @@ use std::net::{Net, TcpStream};
 use std::process::ExitCode;
 use std::rt::Files;
 use std::time::Clock;
-use table::QUORUMCTL;
 use texts::{settings, timing};
 use trouble::Trouble;
 use watchdog::watchdog;
 
-/// The name of the program, and what it is.
+/// The name of the program.
 const PROGRAM: &str = "quorumctl";
-
-const IS: &str = "looks at the settings, the times, the image and the nodes of a quorumd cluster";
 
 fn main(rt: HostRuntime) -> ExitCode {
     let words = match words_given(&rt) {
@@ -46,15 +45,13 @@ fn main(rt: HostRuntime) -> ExitCode {
         Err(status) => return ExitCode::from(status),
     };
     let ended = match words.as_slice() {
-        [word] if word.as_str() == "--help" || word.as_str() == "-h" => about(&rt),
+        [word] if is_help(word.as_str()) || word.as_str() == "help" => about(&rt),
         [word] if word.as_str() == "--version" => version(&rt),
-        words => match refusal_of(QUORUMCTL, words) {
-            Some(refusal) => {
-                let _ = eprintln!(rt; "{PROGRAM}: {refusal}");
-                Ok(usage_status(words))
-            }
-            None => run(&rt, words),
+        [name, word] if is_help(word.as_str()) => match QUORUMCTL.command(name.as_str()) {
+            Some(command) => about_command(&rt, &command),
+            None => judged(&rt, words.as_slice()),
         },
+        words => judged(&rt, words),
     };
     match ended {
         Ok(status) => ExitCode::from(status),
@@ -63,6 +60,45 @@ fn main(rt: HostRuntime) -> ExitCode {
             ExitCode::from(trouble.status())
         }
     }
+}
+
+/// Whether a word asks what a program or a command is.
+fn is_help(word: &str) -> bool {
+    word == "--help" || word == "-h"
+}
+
+/// Runs the command that the words are; where they are none a line on standard error says why.
+fn judged<
+    R: Files<File = File>
+        + Net<Stream = TcpStream>
+        + Clock
+        + Print
+        + Eprint
+        + Input
+        + AllocGlobal
+        + Clone
+        + Drop,
+>(rt: &R, words: &[String]) -> Result<u8, Trouble> {
+    match refusal_of(QUORUMCTL.commands, words) {
+        Some(refusal) => {
+            refuse(rt, &refusal);
+            Ok(usage_status(words))
+        }
+        None => run(rt, words),
+    }
+}
+
+/// Says why words are no command, and what was meant perhaps; that it cannot be said is no fault.
+fn refuse(rt: &(impl Eprint + AllocGlobal), refusal: &Refusal<'_>) {
+    if let Refusal::Empty = refusal
+        && let Ok(text) = overview(rt.alloc(), &QUORUMCTL)
+    {
+        let text = text.as_str();
+        let _ = eprintln!(rt; "{PROGRAM}: {text}");
+        return;
+    }
+    let hint = hint_of(rt.alloc(), &QUORUMCTL, &QUORUMD, refusal);
+    let _ = eprintln!(rt; "{PROGRAM}: {refusal}{hint}");
 }
 
 /// The status for words that are not taken. `status` is run by monitors, to which that of the other commands is an alarm.
@@ -118,13 +154,19 @@ fn first_of(words: &[String]) -> &str {
 }
 
 fn about(rt: &(impl Print + AllocGlobal)) -> Result<u8, Trouble> {
-    let text = help_text(rt.alloc(), PROGRAM, IS, "", QUORUMCTL)?;
+    let text = help_text(rt.alloc(), &QUORUMCTL)?;
+    trouble::say(rt, text.as_str())?;
+    Ok(0)
+}
+
+fn about_command(rt: &(impl Print + AllocGlobal), command: &Synopsis) -> Result<u8, Trouble> {
+    let text = command_help(rt.alloc(), &QUORUMCTL, command)?;
     trouble::say(rt, text.as_str())?;
     Ok(0)
 }
 
 fn version(rt: &(impl Print + AllocGlobal)) -> Result<u8, Trouble> {
-    let text = version_text(rt.alloc(), PROGRAM)?;
+    let text = version_text(rt.alloc(), &QUORUMCTL)?;
     trouble::say(rt, text.as_str())?;
     Ok(0)
 }

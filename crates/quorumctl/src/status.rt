@@ -2,13 +2,12 @@
 use crate::clocks::Clocks;
 use crate::images::{look, pause};
 use crate::status_file::{Refusal, read_status_file};
-use crate::table::QUORUMCTL;
 use crate::trouble::{Trouble, say};
 use qn_control::{
     ClusterStatus, ImageSeen, UnreadFile, cluster_json, cluster_metrics, cluster_text,
     image_lines_beside,
 };
-use qn_usage::{file_of, has_word, value_of};
+use qn_usage::{QUORUMCTL, file_of, has_word, value_of};
 use qn_verdict::Verdict;
 use std::alloc::{AllocError, Global};
 use std::fs::{self, File};
@@ -117,11 +116,11 @@ pub fn see<
         nodes: Vec::new(rt.alloc()),
         unread: Vec::new(rt.alloc()),
     };
-    if file_of(QUORUMCTL, words, 0).is_none() {
+    if file_of(QUORUMCTL.commands, words, 0).is_none() {
         add_here(rt, &mut cluster)?;
     }
     for number in 0..words.len() {
-        let Some(path) = file_of(QUORUMCTL, words, number) else {
+        let Some(path) = file_of(QUORUMCTL.commands, words, number) else {
             break;
         };
         add_file(rt, &mut cluster, path)?;

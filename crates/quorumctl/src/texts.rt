@@ -36,8 +36,19 @@ pub fn settings<R: Files<File = File> + Input + Print + Eprint + AllocGlobal>(
     let text = read_input(rt)?;
     match settings_of_text(rt.alloc(), text.as_slice()) {
         Ok(settings) => say_settings(rt, text.as_slice(), &settings),
-        Err(fault) => say_fault(rt, text.as_slice(), &fault),
+        Err(fault) => {
+            let status = say_fault(rt, text.as_slice(), &fault)?;
+            advise(rt);
+            Ok(status)
+        }
     }
+}
+
+/// Says where the lines of a text at fault are explained; that it cannot be said is no fault.
+fn advise(rt: &impl Eprint) {
+    let _ = eprintln!(rt;
+        "quorumctl: standard input: mend these lines; SETTINGS.md of the documentation has each key and its range"
+    );
 }
 
 /// Says what settings are, and what of them and of their text is risky or read otherwise by Corosync.

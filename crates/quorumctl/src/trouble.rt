@@ -1,5 +1,5 @@
 //! What keeps a command from its work.
-use qn_usage::{NO_MEMORY, WRITE_FAULT};
+use qn_usage::{NO_MEMORY, WRITE_FAULT, remedy_of};
 use std::alloc::{AllocError, AllocFailed, Global};
 use std::{fmt, io};
 
@@ -48,7 +48,10 @@ impl fmt::Display for Trouble {
         match self {
             Trouble::Input(error) => write!(f, "standard input: {error}"),
             Trouble::Output(error) => write!(f, "standard output: {error}"),
-            Trouble::File(word, error) => write!(f, "{word}: {error}"),
+            Trouble::File(word, error) => {
+                let remedy = remedy_of(error.kind());
+                write!(f, "{word}: {error}{remedy}")
+            }
             Trouble::System(error) => write!(f, "{error}"),
             Trouble::Line(number, why) => write!(f, "standard input: line {number}: {why}"),
             Trouble::NoNode => f.write_str(

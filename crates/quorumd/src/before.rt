@@ -51,9 +51,13 @@ impl<'words> Display for WordFault<'words> {
         match self {
             WordFault::Twice(word) => write!(f, "{word}: given twice"),
             WordFault::NoValue(word) => write!(f, "{word}: its value is missing"),
-            WordFault::FourthKey => f.write_str("--key: more than three"),
-            WordFault::OpenBesideKey => f.write_str("--open beside --key"),
-            WordFault::NeitherKeyNorOpen => f.write_str("--links wants --key or --open"),
+            WordFault::FourthKey => f.write_str("--key: more than three; leave out the oldest"),
+            WordFault::OpenBesideKey => f.write_str(
+                "--open beside --key; one of them, and a key where strangers reach the network",
+            ),
+            WordFault::NeitherKeyNorOpen => f.write_str(
+                "--links wants --key or --open; --key FILE seals what the nodes say",
+            ),
             WordFault::MeaningWithoutNode => {
                 f.write_str("--seal-meaning stands before a node or an arbiter alone")
             }

@@ -14,7 +14,7 @@ use qn_machine::{Edge, Guard, Overwrites};
 use qn_model::Settings;
 use qn_seal::{Key, Keys, Texts, text_of};
 use qn_settings::settings;
-use qn_usage::{NO_MEMORY, USAGE};
+use qn_usage::{NO_MEMORY, USAGE, remedy_of};
 use std::fmt::Display;
 use std::fs::{self, File};
 use std::io::{self, Read};
@@ -164,8 +164,15 @@ fn read_file<R: Files<File = File> + AllocGlobal + Eprint>(
     match read_into(rt, path, most, &mut bytes) {
         Ok(()) => Ok(bytes),
         Err(error) if error.kind() == io::ErrorKind::OutOfMemory => Err(NO_MEMORY),
-        Err(error) => Err(refuse(rt, path, error)),
+        Err(error) => Err(refuse_file(rt, path, &error)),
     }
+}
+
+/// Says why the system refuses a file and what can be done, and gives the status to end with. That it cannot be said is no fault.
+fn refuse_file<E: Eprint>(errors: &E, path: &str, error: &io::Error) -> u8 {
+    let remedy = remedy_of(error.kind());
+    let _ = eprintln!(errors; "{PROGRAM}: {path}: {error}{remedy}");
+    USAGE
 }
 
 fn read_into<R: Files<File = File>>(
@@ -220,10 +227,14 @@ fn other_key<R: Files<File = File> + AllocGlobal + Eprint>(
 fn read_key<R: Files<File = File> + AllocGlobal + Eprint>(rt: &R, path: &str) -> Result<Key, u8> {
     let about = match fs::metadata(rt, path) {
         Ok(about) => about,
-        Err(error) => return Err(refuse(rt, path, error)),
+        Err(error) => return Err(refuse_file(rt, path, &error)),
     };
-    if !about.is_file() || about.permissions().mode() % 64 != 0 {
-        return Err(refuse(rt, path, "others may read it"));
+    if !about.is_file() {
+        return Err(refuse(rt, path, "a key is a regular file"));
+    }
+    if about.permissions().mode() % 64 != 0 {
+        let _ = eprintln!(rt; "{PROGRAM}: {path}: others may read it; chmod 600 {path}");
+        return Err(USAGE);
     }
     let size = about.len();
     if size < LEAST_KEY || size > MOST_KEY {
@@ -239,7 +250,7 @@ fn read_key<R: Files<File = File> + AllocGlobal + Eprint>(rt: &R, path: &str) ->
 
 fn refuse_size<E: Eprint>(errors: &E, path: &str, size: u64) -> u8 {
     let _ = eprintln!(errors;
-        "{PROGRAM}: {path}: {size} bytes, a key has {LEAST_KEY} to {MOST_KEY}"
+        "{PROGRAM}: {path}: {size} bytes, a key has {LEAST_KEY} to {MOST_KEY}; copy that of another host"
     );
     USAGE
 }
@@ -309,5 +320,8 @@ fn refuse_text<E: Eprint>(errors: &E, path: &str, fault: Fault) -> u8 {
     let line = fault.line();
     let said = str::from_utf8(line.as_slice()).unwrap_or("");
     let said = said.trim().trim_start_matches("fault ");
-    refuse(errors, path, said)
+    let _ = eprintln!(errors;
+        "{PROGRAM}: {path}: {said}; quorumctl settings < {path} shows its lines"
+    );
+    USAGE
 }

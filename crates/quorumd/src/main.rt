@@ -3,24 +3,28 @@
 //!
 //! The words before the command, and the files that they name, are read here, and `top` is handed the rest: where one is wrong, a line on
 //! standard error says so and the status is 2. It is 2 also for a word that is no UTF-8, and 11 where there is no memory for the words or
-//! the files; nothing is written then. The words `--help`, `-h` and `--version` are answered here. After a status 2 of
-//! `top` a line on standard error says which word was not taken.
+//! the files; nothing is written then. The words `--help`, `-h` and `--version` are answered here, and `--help` behind a command. After a status 2 of
+//! `top` a line on standard error says which word was not taken, and after another fault what mends it.
 #![tactic(auto)]
 
+mod advice;
 mod before;
 mod edge;
+mod last_line;
 mod same_text;
 
+use advice::Advice;
 use before::{Before, WordFault, is_running};
 use edge::edge_of;
+use last_line::LastLine;
 use qn_base::read_decimal;
 use qn_io::put_all;
 use qn_journal::{Journal, NodeNames};
 use qn_machine::{Edge, Lines, RealEnv, ReplacedFile, StdSink, StdSource, SteadyHost};
 use qn_top::top;
 use qn_usage::{
-    BEFORE, NO_MEMORY, QUORUMD, USAGE, WRITE_FAULT, help_text, refusal_of, version_text,
-    words_given,
+    IS_TYPED, NO_MEMORY, QUORUMCTL, QUORUMD, Refusal, USAGE, WRITE_FAULT, command_help, help_text,
+    hint_of, is_typed, overview, refusal_of, version_text, words_given,
 };
 use same_text::{SameText, Text};
 use std::fs::File;
@@ -28,10 +32,8 @@ use std::process::{self, ExitCode};
 use std::rt::{Env, Files};
 use std::{env, io};
 
-/// The name of the program, and what it is.
+/// The name of the program.
 const PROGRAM: &str = "quorumd";
-
-const IS: &str = "one member of a high-availability cluster";
 
 fn main(rt: HostRuntime) -> ExitCode {
     let words = match words_given(&rt) {
@@ -55,7 +57,7 @@ fn run(rt: &HostRuntime, said: Outside, words: &[String]) -> u8 {
     let lines = Lines::new(id_in(words), is_in_journal(rt));
     let input = StdSource::new(rt.reader(), lines.over(rt));
     let mut input = SameText::new(input, lines.over(rt), said.text);
-    let mut out = StdSink::new(io::writer(rt), lines.over(rt));
+    let mut out = LastLine::new(StdSink::new(io::writer(rt), lines.over(rt)));
     let mut env = RealEnv::new(SteadyHost::new(rt), said.edge, &lines);
     let mut journal = journal_of(
         &host,
@@ -64,6 +66,7 @@ fn run(rt: &HostRuntime, said: Outside, words: &[String]) -> u8 {
         &said.files,
         names_of(&said.names),
     );
+    say_what_is_typed(rt, words);
     let status = top(
         rt.alloc(),
         words,
@@ -74,6 +77,10 @@ fn run(rt: &HostRuntime, said: Outside, words: &[String]) -> u8 {
     );
     if status == USAGE {
         say_what_is_wrong(rt, words);
+    } else if status != WRITE_FAULT
+        && let Some(advice) = Advice::of(words, out.fault())
+    {
+        let _ = eprintln!(rt; "{PROGRAM}: {advice}");
     }
     status
 }
@@ -203,12 +210,13 @@ fn id_in(words: &[String]) -> u32 {
 /// Answers what is asked about the program itself, with the status to end with; None where the words ask for something else.
 #[inline(never)]
 fn answer_about(rt: &(impl Print + Eprint + AllocGlobal), words: &[String]) -> Option<u8> {
-    let [word] = words else {
-        return None;
-    };
-    let text = match word.as_str() {
-        "--help" | "-h" => help_text(rt.alloc(), PROGRAM, IS, BEFORE, QUORUMD),
-        "--version" => version_text(rt.alloc(), PROGRAM),
+    let text = match words {
+        [word] if is_help(word.as_str()) => help_text(rt.alloc(), &QUORUMD),
+        [word] if word.as_str() == "--version" => version_text(rt.alloc(), &QUORUMD),
+        [name, word] if is_help(word.as_str()) => {
+            let command = QUORUMD.command(name.as_str())?;
+            command_help(rt.alloc(), &QUORUMD, &command)
+        }
         _ => return None,
     };
     let Ok(text) = text else {
@@ -221,11 +229,46 @@ fn answer_about(rt: &(impl Print + Eprint + AllocGlobal), words: &[String]) -> O
     }
 }
 
-/// Says on standard error which word was not taken; that it cannot be said is no fault.
+/// Whether a word asks what the program or a command is.
+fn is_help(word: &str) -> bool {
+    word == "--help" || word == "-h"
+}
+
+/// Says on standard error that a command reads from a terminal, where it does; that it cannot be said is no fault.
 #[inline(never)]
-fn say_what_is_wrong(rt: &impl Eprint, words: &[String]) {
-    let _ = match refusal_of(QUORUMD, words) {
-        Some(refusal) => eprintln!(rt; "{PROGRAM}: {refusal}"),
-        None => eprintln!(rt; "{PROGRAM}: these words are no command"),
+fn say_what_is_typed<R: Files<File = File> + Eprint>(rt: &R, words: &[String]) {
+    let name = words.first().map_or("", String::as_str);
+    let Some(command) = QUORUMD.command(name) else {
+        return;
     };
+    let reads = command.reads;
+    if !reads.is_empty() && is_typed(rt) {
+        let _ = eprintln!(rt; "{PROGRAM}: {reads} {IS_TYPED}");
+    }
+}
+
+/// Says on standard error which word was not taken, and what was meant perhaps; that it cannot be said is no fault.
+#[inline(never)]
+fn say_what_is_wrong(rt: &(impl Eprint + AllocGlobal), words: &[String]) {
+    let refusal = match refusal_of(QUORUMD.commands, words) {
+        Some(Refusal::Empty) => {
+            say_commands(rt);
+            return;
+        }
+        Some(refusal) => refusal,
+        None => {
+            let _ = eprintln!(rt; "{PROGRAM}: these words are no command");
+            return;
+        }
+    };
+    let hint = hint_of(rt.alloc(), &QUORUMD, &QUORUMCTL, &refusal);
+    let _ = eprintln!(rt; "{PROGRAM}: {refusal}{hint}");
+}
+
+/// Says on standard error which commands there are; that it cannot be said is no fault.
+fn say_commands(rt: &(impl Eprint + AllocGlobal)) {
+    if let Ok(text) = overview(rt.alloc(), &QUORUMD) {
+        let text = text.as_str();
+        let _ = eprintln!(rt; "{PROGRAM}: {text}");
+    }
 }

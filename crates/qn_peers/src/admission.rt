@@ -1,22 +1,24 @@
 //! Which of the datagrams that come are handed to the node.
 ghost use Rattle.std.specs.Prelude.{◌≡◌};
 ghost use Rattle.std.specs.Net.Socket.{socket_ip, socket_port};
-ghost use Rattle.qn_machine.specs.Admission.{IsOf, IsOpened, IsOwn, IsRefused, is_double, is_of_host, is_reply, is_request, is_strange, is_vote, is_word, names_other, receiver_after_taking, seat_of};
+ghost use Rattle.qn_peers.specs.Admission.{IsOf, IsOpened, IsOwn, IsRefused, is_double, is_of_host, is_reply, is_request, is_strange, is_vote, is_word, names_other, receiver_after_taking, seat_of};
 
-use crate::leave_file::LEAVE;
 use crate::peers::Peers;
 use qn_links::Ring;
 use qn_seal::{Receiver, Refused};
 use std::net::{IpAddr, Ipv4Addr, SocketAddr};
 
 /// The seat of the arbiter, one above those of the ranks.
-pub(crate) const ARBITER: u8 = 32;
+pub const ARBITER: u8 = 32;
 
 /// The kind of a packet of the quorum device of the node's own host.
 const VOTE: u8 = 5;
 
+/// The kind of a request of the node's own host that it is to leave.
+pub const LEAVE: u8 = 12;
+
 /// The kind of what a node's own host says of it.
-pub(crate) const WORD: u8 = 13;
+pub const WORD: u8 = 13;
 
 /// The kind of a packet of the arbiter, and how many bytes it has.
 const REPLY: u8 = 7;
@@ -70,7 +72,7 @@ pub struct Admission {
 
 impl Admission {
     ghost use Rattle.std.specs.Prelude.{◌≡◌, OnOk, OnErr, IfOk, IfErr, IfSome, IfNone};
-    ghost use Rattle.qn_machine.specs.declared.admission.Sender.{Sender};
+    ghost use Rattle.qn_peers.specs.declared.admission.Sender.{Sender};
 
     /// Whose address and port these are.
     pub fn sender_of(&self, from: SocketAddr) -> Option<Sender>
@@ -119,7 +121,7 @@ impl Admission {
 }
 
 /// Whether a datagram that is not handed on came before over the other of two networks, or may have: its number was taken, or is too far behind.
-pub(crate) fn is_double(peers: &Peers, sender: Option<Sender>, reason: Reason) -> bool
+pub fn is_double(peers: &Peers, sender: Option<Sender>, reason: Reason) -> bool
     ensures { result ≡ is_double peers.now sender reason }
 {
     let Reason::Sealed(Refused::Old) = reason else {
@@ -129,7 +131,7 @@ pub(crate) fn is_double(peers: &Peers, sender: Option<Sender>, reason: Reason) -
 }
 
 /// Whether a datagram is a vote of the quorum device of this host.
-pub(crate) fn is_vote_of_host(from: SocketAddr, bytes: &[u8]) -> bool {
+pub fn is_vote_of_host(from: SocketAddr, bytes: &[u8]) -> bool {
     from.ip() == IpAddr::V4(Ipv4Addr::LOCALHOST) && is_vote(bytes)
 }
 

@@ -3,8 +3,8 @@ use Rattle.std.specs.Prelude.{ℕ, ◌-◌, ◌||◌, Bool, true, false, nat_le,
 use Rattle.qn_links.specs.Networks.{other_ring}
 use Rattle.qn_links.specs.declared.sections.Ring.{Ring}
 use Rattle.qn_links.specs.declared.sections.Ring.TheVariants.{First, Second}
-use Rattle.qn_machine.specs.declared.arrivals.Arrivals.{Arrivals}
-use Rattle.qn_machine.specs.declared.arrivals.Arrivals.TheVariants.{Nothing, Over}
+use Rattle.qn_peers.specs.declared.arrivals.Arrivals.{Arrivals}
+use Rattle.qn_peers.specs.declared.arrivals.Arrivals.TheVariants.{Nothing, Over}
 
 -- since when packets come over one network alone, once one more did: after a silence that makes a network lost they are counted anew
 abbrev pub alone_since : ℕ → ℕ → ℕ → ℕ → ℕ

@@ -7,13 +7,13 @@ use Rattle.qn_seal.specs.Receiving.{judged, opened_by, receiver_after}
 use Rattle.qn_links.specs.declared.sections.Ring.{Ring}
 use Rattle.qn_seal.specs.declared.receiver.Receiver.{Receiver}
 use Rattle.qn_seal.specs.declared.receiver.Refused.TheVariants.{Unsealed, Astray, Old}
-use Rattle.qn_machine.specs.declared.admission.Admission.{Admission}
-use Rattle.qn_machine.specs.declared.admission.Reason.{Reason}
-use Rattle.qn_machine.specs.declared.admission.Reason.TheVariants.{Elsewhere, Sealed}
-use Rattle.qn_machine.specs.declared.admission.Sender.{Sender}
-use Rattle.qn_machine.specs.declared.admission.Sender.TheVariants.{Rank, Arbiter}
-use Rattle.qn_machine.specs.declared.peers.Peers.{Peers}
-use Rattle.qn_machine.specs.Peers.{IsOther}
+use Rattle.qn_peers.specs.declared.admission.Admission.{Admission}
+use Rattle.qn_peers.specs.declared.admission.Reason.{Reason}
+use Rattle.qn_peers.specs.declared.admission.Reason.TheVariants.{Elsewhere, Sealed}
+use Rattle.qn_peers.specs.declared.admission.Sender.{Sender}
+use Rattle.qn_peers.specs.declared.admission.Sender.TheVariants.{Rank, Arbiter}
+use Rattle.qn_peers.specs.declared.peers.Peers.{Peers}
+use Rattle.qn_peers.specs.Peers.{IsOther}
 
 -- the seat of a sender: that of the arbiter is one above those of the ranks
 abbrev pub seat_of : Sender → ℕ

@@ -4,7 +4,7 @@ use Rattle.std.specs.declared.net.ip_addr.IpAddr.{IpAddr}
 use Rattle.qn_links.specs.declared.networks.Networks.{Networks}
 use Rattle.qn_links.specs.declared.sections.Ring.{Ring}
 use Rattle.qn_links.specs.declared.sections.Ring.TheVariants.{First, Second}
-use Rattle.qn_machine.specs.declared.peers.Peers.{Peers}
+use Rattle.qn_peers.specs.declared.peers.Peers.{Peers}
 
 -- the address of the node of that rank on that network, where there is one
 abbrev pub address_on : Networks → Ring → ℕ → Option IpAddr

@@ -1,6 +1,6 @@
 //! Whether one of the two networks is lost to another node, by what comes of it.
 ghost use Rattle.std.specs.Prelude.{◌≡◌};
-ghost use Rattle.qn_machine.specs.Arrivals.{alone_since, arrivals_after, lost_network};
+ghost use Rattle.qn_peers.specs.Arrivals.{alone_since, arrivals_after, lost_network};
 
 use qn_links::Ring;
 

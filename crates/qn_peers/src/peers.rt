@@ -2,7 +2,7 @@
 ghost use Rattle.std.specs.Net.Socket.{socket_ip, socket_port};
 ghost use Rattle.std.specs.declared.net.ip_addr.IpAddr.{IpAddr};
 ghost use Rattle.qn_links.specs.declared.sections.Ring.{Ring};
-ghost use Rattle.qn_machine.specs.Peers.{IsAt, IsOther, address_on};
+ghost use Rattle.qn_peers.specs.Peers.{IsAt, IsOther, address_on};
 
 use qn_links::{Networks, Ring};
 use std::net::{IpAddr, SocketAddr};

@@ -1,0 +1,3 @@
+pub mod Peers
+pub mod Admission
+pub mod Arrivals
