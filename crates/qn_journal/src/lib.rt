@@ -1,7 +1,6 @@
 //! The journal of a running node or arbiter and its status file: what `Notices` hands on becomes lines on standard error, in the grammar of
 //! FORMATS.md, and one object of JSON in a file that is replaced. It is the edge: the system's clock, and files. What is told of
-//! an entry is decided by `qn_notice`; when peers, images, the arbiter and what happens often are told, and what the others are, by `qn_news`;
-//! the bytes of each line by `qn_told`.
+//! an entry is decided by `qn_notice`, of peers, images, the arbiter, what happens often and what the others are told by `qn_news`, and the bytes of each line by `qn_told`.
 //!
 //! Promises: each call ends, takes no memory from an allocator, and fails nowhere. No clause says what a file or standard error takes.
 #![tactic(auto)]
