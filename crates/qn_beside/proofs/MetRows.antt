@@ -1,5 +1,5 @@
 -- Each of what happens in that run may happen, and what the nodes then see.
-use Rattle.std.proofs.Common.{◌≡◌, ◌<◌, ℕ, Bool, true, List, ◌∷◌, ◌++◌, None, Some, refl, sym, arith}
+use Rattle.std.proofs.Common.{◌≡◌, ◌<◌, Bool, true, List, ◌++◌, Some, refl, sym, arith}
 use Rattle.std.proofs.lemmas.Bool.{false≢true, leb-true}
 use Rattle.qn_base.specs.lemmas.Numbers.{one_is_not_zero}
 use Rattle.qn_model.specs.lemmas.WorldSteps.{node_steps}
@@ -22,7 +22,7 @@ use Rattle.qn_live.specs.Greetings.{sends_plan}
 use Rattle.qn_live.specs.Performing.{disk_call, done, out_call, outs_plan, waits_after}
 use Rattle.qn_live.specs.Runs.{clocked, greeted, handled, live_plan, parted, run_plan, settled}
 use Rattle.qn_joined.specs.Stands.{after_spot, left_plan, log_at}
-use Rattle.qn_joined.specs.Joints.{AllMayHappen, FitsImage, IsNewImage, happens, is_timed, joint_after, looked_first, returned}
+use Rattle.qn_joined.specs.Joints.{FitsImage, IsNewImage, happens, is_timed, looked_first, returned}
 use Rattle.qn_beside.specs.Beside.{AllMayHappenBeside, BesideHappening, beside_after, happens_beside}
 use Rattle.qn_beside.specs.Laws.{IsQuorateHost}
 use Rattle.qn_beside.specs.Met.{OneSideIsQuorate, host_after}
