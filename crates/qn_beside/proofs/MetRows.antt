@@ -275,7 +275,7 @@ first_quorate = record { timed = refl; sees = refl; quorate = refl }
 
 few : votes_among (with_device 10).nodes (named_view 0 2 1).members
     < (answer_with_tie (with_device 10) (log_at (host_after (with_device 10) short_lease new_image answered_1 0).stand.spot)
-      (tick_of (host_after (with_device 10) short_lease new_image answered_1 0).clock)).quorum
+    (tick_of (host_after (with_device 10) short_lease new_image answered_1 0).clock)).quorum
 unfolding beside_steps
 few = omega arith
 

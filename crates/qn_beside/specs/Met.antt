@@ -46,6 +46,6 @@ pub record OneSideIsQuorate : Type 0 where
   pub first_quorate : IsQuorateHost settings left (host_after settings times image (after ++ together) first)
   pub few : votes_among settings.nodes left.members
       < (answer_with_tie settings (log_at (host_after settings times image (after ++ together) first).stand.spot)
-        (tick_of (host_after settings times image (after ++ together) first).clock)).quorum
+      (tick_of (host_after settings times image (after ++ together) first).clock)).quorum
   pub second_runs : is_timed settings (host_after settings times image (after ++ together) second) ≡ true
   pub second_sees : view (log_at (host_after settings times image (after ++ together) second).stand.spot) ≡ Some right
