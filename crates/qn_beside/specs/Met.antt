@@ -19,9 +19,9 @@ use Rattle.qn_beside.specs.Laws.{IsJoinedBeside, IsQuorateHost}
 abbrev pub host_after : Settings → Lease → (ℕ → List ℕ) → List BesideHappening → ℕ → Host
 host_after s times image happenings rank = (beside_after s times image happenings).joint.hosts rank
 
--- A joined run of two nodes and an arbiter with a safe lease. First both are quorate in one view. Then they are cut, and of two views
--- with no member in common one is quorate: its members have too few votes of their own, so it is so by the arbiter's yes. The node of the other
--- one runs on.
+-- A joined run of two nodes and an arbiter with a safe lease. First both are quorate in one view.
+-- Then they are cut, and of two views with no member in common one is quorate: its members have too
+-- few votes of their own, so it is so by the arbiter's yes. The node of the other one runs on.
 pub record OneSideIsQuorate : Type 0 where
   pub settings : Settings
   pub timing : Timing
