@@ -1,11 +1,12 @@
 """An arbiter that runs, asked by polls that are made here: it says no for a lease, then yes to one side at a time; its journal and its status; under a
-key it takes polls of nodes alone, and none twice; what it does not open with, it says in a line."""
+key it takes polls of nodes alone, and none twice, also while another user floods it; what it does not open with, it says in a line."""
 import hashlib
 import os
 import pathlib
 import socket
 import struct
 import subprocess
+import sys
 import time
 
 from arbiters import SEATS, Arbiter
@@ -145,6 +146,47 @@ def with_the_meaning():
         same("the tag of the reply", answer[-32:], tag_of(key.read_bytes(), said, answer[:-32]))
 
 
+FLOOD = """
+import os, socket, sys, time
+port, polled, end = int(sys.argv[1]), bytes.fromhex(sys.argv[2]), time.monotonic() + 2
+to = socket.socket(socket.AF_INET, socket.SOCK_DGRAM)
+while time.monotonic() < end:
+    for packet in polled, polled[:-1] + b"x", polled[:40], polled[22:62], os.urandom(94), b"QN" + os.urandom(38), b"", bytes(9000):
+        to.sendto(packet, ("127.0.2.9", port + 32))
+"""
+
+
+def a_flood_of_another_user():
+    """A poll that was recorded, the same changed, cut short and bare, and others, as fast as another user of the host can send: none is taken, the node is
+    answered on, and what was refused is counted and said in a line."""
+    port = free_ports(SEATS)
+    conf = conf_of(host="127.0.2.9", address="127.0.2.%d")
+    key, with_key = with_a_key("flooded", conf)
+    arbiter = Arbiter("flood", conf, port, before=with_key)
+    arbiter.opened()
+    secret, text = hashlib.sha256(key.read_bytes()).digest(), hashlib.sha256(conf.encode()).digest()
+    node = socket.socket(socket.AF_INET, socket.SOCK_DGRAM)
+    node.bind(("127.0.2.2", port + 1))
+    node.settimeout(0.1)
+    packet = sealed(secret, text, 1, 32, 1, poll(1, 0, 2))
+    as_other = ["setpriv", "--reuid=65534", "--regid=65534", "--clear-groups"] if os.getuid() == 0 else []
+    flood = subprocess.Popen([*as_other, sys.executable, "-c", FLOOD, str(port), packet.hex()])
+    asked, answered = 0, 0
+    while flood.poll() is None or not answered:
+        node.sendto(sealed(secret, text, 1, 32, asked + 1, poll(1, asked, 2)), ("127.0.2.9", port + 32))
+        asked += 1
+        try:
+            same("the seat of a reply, and whom it is to", node.recv(200)[4:6], bytes([32, 1]))
+            answered += 1
+        except TimeoutError:  # the poll had no room beside the flood
+            pass
+    same("the flood", flood.returncode, 0)
+    wait_for("the last packet is taken", lambda: arbiter.status()["polls"] >= answered)
+    same("polls of the node alone were taken", arbiter.status()["polls"] <= asked, True)
+    same("what was refused is counted", arbiter.status()["refused"] > 100, True)
+    same("lines that say so", len(arbiter.events("packets-refused")), 1)
+
+
 def ended(words, conf):
     done = subprocess.run([QUORUMD, *words], input=conf, capture_output=True, text=True, check=False, timeout=60)
     return done.returncode, done.stdout, done.stderr
@@ -174,4 +216,4 @@ def what_it_does_not_open_with():
         same("a node with it: " + line, ended(["--open", "--links", str(conf), "help"], text)[0], 0)
 
 
-try_all(one_side_at_a_time, nobody_else_is_answered, under_a_key, with_the_meaning, what_it_does_not_open_with)
+try_all(one_side_at_a_time, nobody_else_is_answered, under_a_key, with_the_meaning, a_flood_of_another_user, what_it_does_not_open_with)

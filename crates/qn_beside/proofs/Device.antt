@@ -1,8 +1,7 @@
 -- Two nodes of one vote each and a device of one vote, as worked schedules have them.
-use Rattle.std.proofs.Common.{◌≡◌, ◌≤◌, ◌<◌, ◌==◌, ◌⊎◌, inl, inr, ℕ, suc, zero, Bool, true, false, List, [], ◌∷◌, Some, None, refl, sym, ap, ◌∙◌, subst, arith}
+use Rattle.std.proofs.Common.{◌≡◌, ◌≤◌, ◌<◌, ◌==◌, ◌⊎◌, inl, inr, ℕ, suc, zero, true, false, [], ◌∷◌, Some, None, refl, sym, ap, ◌∙◌, subst, arith, length}
 use Rattle.std.proofs.lemmas.Bool.{cases_eq, false≢true}
 use Rattle.std.proofs.lemmas.Nat.Bits.{bit_at-pow_other}
-use Rattle.qn_base.specs.declared.ids.View.{View}
 use Rattle.qn_base.specs.Members.{is_member}
 use Rattle.qn_model.specs.declared.configuration.Settings.{Settings}
 use Rattle.qn_model.specs.lemmas.TwoNodes.{first_node, second_node, each_of_two, two_ids_ascend}
@@ -44,9 +43,6 @@ with_device_valid timeout some fits = record {
   tie_alone = λ e. absurd (false≢true e);
 }
 
-pub not_same : ¬ (◌≡◌ {A = ℕ} 0 1)
-not_same e = absurd (omega arith)
-
 -- views of one node each have no node in common, whatever their numbers are
 pub views_apart : (one other : ℕ) → AreDisjoint (record { id = one; members = record { 0 = 1 } }) (record { id = other; members = record { 0 = 2 } })
 views_apart one other rank in_left in_right = by_rank (cases_eq rank 0)
@@ -55,7 +51,8 @@ views_apart one other rank in_left in_right = by_rank (cases_eq rank 0)
     by_rank (inl same) = false≢true (subst (λ r. is_member (record { 0 = 2 }) r ≡ true) same in_right)
     by_rank (inr differs) = false≢true (sym (ap (λ n. n == 1) (bit_at-pow_other 0 rank differs)) ∙ in_left)
 
-pub of_two : (P : ℕ → Type 0) → P 0 → P 1 → (rank : ℕ) → rank < 2 → P rank
-of_two P one two zero below = one
-of_two P one two (suc zero) below = two
-of_two P one two (suc (suc rank)) below = absurd (omega arith)
+-- what is so of both ranks is so of each
+pub of_each_node : (P : ℕ → Type 0) → P 0 → P 1 → (rank : ℕ) → rank < length (with_device 10).nodes → P rank
+of_each_node P one two zero below = one
+of_each_node P one two (suc zero) below = two
+of_each_node P one two (suc (suc rank)) below = absurd (omega arith)

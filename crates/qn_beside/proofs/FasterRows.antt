@@ -1,8 +1,9 @@
 -- A schedule that breaks the law of one lease where the arbiter's clock is 2 per cent fast.
-use Rattle.std.proofs.Common.{◌≡◌, ◌*◌, ℕ, Bool, true, List, [], ◌∷◌, ◌++◌, refl, arith}
+use Rattle.std.proofs.Common.{◌≡◌, ◌*◌, ℕ, Bool, true, List, [], ◌∷◌, ◌++◌, refl, sym, arith}
 use Rattle.qn_base.specs.declared.ids.Rank.{Rank}
 use Rattle.qn_base.specs.declared.ids.View.{View}
 use Rattle.qn_model.specs.declared.events.Event.TheVariants as event
+use Rattle.qn_base.specs.lemmas.Numbers.{one_is_not_zero}
 use Rattle.qn_model.specs.lemmas.WorldSteps.{world_steps}
 use Rattle.qn_model.specs.Timing.{usual_times}
 use Rattle.qn_safety.specs.declared.arbiter_event.ArbiterEvent.{ArbiterEvent}
@@ -12,7 +13,7 @@ use Rattle.qn_safety.specs.ArbiterLaws.{IsQuorateIn}
 use Rattle.qn_safety.specs.ArbiterRules.{is_well_formed_beside, refusal_beside}
 use Rattle.qn_safety.specs.ArbiterSteps.{arbiter_after, played, pollers_after, poll_sent, reply_sent, run_beside, step_beside}
 use Rattle.qn_beside.specs.Faster.{BrokenByFasterClock, are_allowed_faster}
-use Rattle.qn_beside.proofs.Device.{not_same, views_apart, with_device, with_device_valid}
+use Rattle.qn_beside.proofs.Device.{views_apart, with_device, with_device_valid}
 
 abbrev least_lease : Lease
 least_lease = record { limit = 2000; lease = 12244 }
@@ -111,7 +112,7 @@ broken_by_faster_clock = record {
   };
   safe = refl;
   allowed = breaks_is_allowed;
-  differ = not_same;
+  differ = λ same. one_is_not_zero (sym same);
   apart = views_apart 1 1;
   first_quorate = slow_is_quorate;
   second_quorate = other_is_quorate;

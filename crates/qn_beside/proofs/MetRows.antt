@@ -1,6 +1,7 @@
 -- Each of what happens in that run may happen, and what the nodes then see.
-use Rattle.std.proofs.Common.{◌≡◌, ◌<◌, ℕ, Bool, true, List, ◌∷◌, ◌++◌, None, Some, refl, arith}
+use Rattle.std.proofs.Common.{◌≡◌, ◌<◌, Bool, true, List, ◌++◌, Some, refl, sym, arith}
 use Rattle.std.proofs.lemmas.Bool.{false≢true, leb-true}
+use Rattle.qn_base.specs.lemmas.Numbers.{one_is_not_zero}
 use Rattle.qn_model.specs.lemmas.WorldSteps.{node_steps}
 use Rattle.qn_model.specs.NodeOutputs.{log_from}
 use Rattle.qn_model.specs.NodeVotes.{answer_with_tie, view}
@@ -21,11 +22,11 @@ use Rattle.qn_live.specs.Greetings.{sends_plan}
 use Rattle.qn_live.specs.Performing.{disk_call, done, out_call, outs_plan, waits_after}
 use Rattle.qn_live.specs.Runs.{clocked, greeted, handled, live_plan, parted, run_plan, settled}
 use Rattle.qn_joined.specs.Stands.{after_spot, left_plan, log_at}
-use Rattle.qn_joined.specs.Joints.{AllMayHappen, FitsImage, IsNewImage, happens, is_timed, joint_after, looked_first, returned}
+use Rattle.qn_joined.specs.Joints.{FitsImage, IsNewImage, happens, is_timed, looked_first, returned}
 use Rattle.qn_beside.specs.Beside.{AllMayHappenBeside, BesideHappening, beside_after, happens_beside}
 use Rattle.qn_beside.specs.Laws.{IsQuorateHost}
 use Rattle.qn_beside.specs.Met.{OneSideIsQuorate, host_after}
-use Rattle.qn_beside.proofs.Device.{not_same, of_two, views_apart, with_device, with_device_valid}
+use Rattle.qn_beside.proofs.Device.{of_each_node, views_apart, with_device, with_device_valid}
 use Rattle.qn_beside.proofs.MetRun.{alone, answered_0, answered_1, first_view, hears, misses, named_view, new_image, one_view, part_alone, part_answered_0, part_answered_1, part_misses, part_polls_0, part_polls_1, polls_0, polls_1, sees, short_lease, short_times, up_0, up_1}
 
 abbrev May : List BesideHappening → Type 0
@@ -67,7 +68,7 @@ up_0_may =
     ((refl, refl, refl), tt, tt, λ c. absurd (false≢true c)) ▸
     ((refl, refl, refl), tt, tt, λ c. absurd (false≢true c)) ▸
     ((omega arith, omega arith, refl), refl, tt, λ c. absurd (false≢true c)) ▸
-    ((of_two _ refl refl, refl), refl, refl) ▸
+    ((of_each_node _ refl refl, refl), refl, refl) ▸
     (refl, refl) ▸
     refl ▸
     tt
@@ -126,7 +127,7 @@ sees_may =
     ((refl, refl, refl), tt, tt, λ c. absurd (false≢true c)) ▸
     (record { on = refl; asked = refl; waits = refl; answer = refl; spells = refl }, tt, record { hears = tt; spells = refl }, λ c. absurd (false≢true c)) ▸
     (record { on = refl; asked = refl; waits = refl; answer = tt; spells = refl }, tt, record { hears = tt; spells = refl }, λ c. absurd (false≢true c)) ▸
-    ((of_two _ refl refl, refl), refl, refl) ▸
+    ((of_each_node _ refl refl, refl), refl, refl) ▸
     hears_may
 
 first_view_may : May first_view
@@ -160,7 +161,7 @@ one_view_may =
     (record { on = refl; asked = refl; waits = refl; answer = tt; spells = refl }, tt, record { hears = tt; spells = refl }, λ c. absurd (false≢true c)) ▸
     (record { on = refl; asked = refl; waits = refl; answer = refl; spells = refl }, tt, record { hears = tt; spells = refl }, λ c. absurd (false≢true c)) ▸
     (record { on = refl; asked = refl; waits = refl; answer = tt; spells = refl }, tt, record { hears = tt; spells = refl }, λ c. absurd (false≢true c)) ▸
-    ((of_two _ refl refl, refl), refl, refl) ▸
+    ((of_each_node _ refl refl, refl), refl, refl) ▸
     first_view_may
 
 misses_may : May misses
@@ -186,7 +187,7 @@ misses_may =
     (record { on = refl; asked = refl; waits = refl; answer = tt; spells = refl }, tt, record { hears = tt; spells = refl }, λ c. absurd (false≢true c)) ▸
     (record { on = refl; asked = refl; waits = refl; answer = refl; spells = refl }, tt, record { hears = tt; spells = refl }, λ c. absurd (false≢true c)) ▸
     (record { on = refl; asked = refl; waits = refl; answer = tt; spells = refl }, tt, record { hears = tt; spells = refl }, λ c. absurd (false≢true c)) ▸
-    ((of_two _ refl refl, refl), refl, refl) ▸
+    ((of_each_node _ refl refl, refl), refl, refl) ▸
     one_view_may
 
 alone_may : May alone
@@ -208,7 +209,7 @@ alone_may =
     ((refl, refl, refl), tt, tt, λ c. absurd (false≢true c)) ▸
     (record { on = refl; asked = refl; waits = refl; answer = refl; spells = refl }, tt, record { hears = tt; spells = refl }, λ c. absurd (false≢true c)) ▸
     (record { on = refl; asked = refl; waits = refl; answer = tt; spells = refl }, tt, record { hears = tt; spells = refl }, λ c. absurd (false≢true c)) ▸
-    ((of_two _ refl refl, refl), refl, refl) ▸
+    ((of_each_node _ refl refl, refl), refl, refl) ▸
     misses_may
 
 polls_0_may : May polls_0
@@ -223,7 +224,7 @@ polls_0_may =
     ((refl, refl, refl), tt, tt, λ c. absurd (false≢true c)) ▸
     (record { on = refl; asked = refl; waits = refl; answer = refl; spells = refl }, tt, record { hears = tt; spells = refl }, λ c. absurd (false≢true c)) ▸
     (record { on = refl; asked = refl; waits = refl; answer = tt; spells = refl }, tt, record { hears = tt; spells = refl }, λ c. absurd (false≢true c)) ▸
-    ((of_two _ refl refl, refl), refl, refl) ▸
+    ((of_each_node _ refl refl, refl), refl, refl) ▸
     alone_may
 
 polls_1_may : May polls_1
@@ -274,7 +275,7 @@ first_quorate = record { timed = refl; sees = refl; quorate = refl }
 
 few : votes_among (with_device 10).nodes (named_view 0 2 1).members
     < (answer_with_tie (with_device 10) (log_at (host_after (with_device 10) short_lease new_image answered_1 0).stand.spot)
-      (tick_of (host_after (with_device 10) short_lease new_image answered_1 0).clock)).quorum
+    (tick_of (host_after (with_device 10) short_lease new_image answered_1 0).clock)).quorum
 unfolding beside_steps
 few = omega arith
 
@@ -287,11 +288,11 @@ unfolding beside_steps
 second_sees = refl
 
 created : IsNewImage (with_device 10) short_times new_image
-created = record { header = refl; slots = of_two _ refl refl; mails = of_two _ refl refl }
+created = record { header = refl; slots = of_each_node _ refl refl; mails = of_each_node _ refl refl }
 
 fits : FitsImage (with_device 10) short_times
 fits =
-    record { some = omega arith; few = omega arith; times = refl; ids = of_two _ (omega arith, omega arith) (omega arith, omega arith) }
+    record { some = omega arith; few = omega arith; times = refl; ids = of_each_node _ (omega arith, omega arith) (omega arith, omega arith) }
 
 pub one_side_is_quorate : OneSideIsQuorate
 one_side_is_quorate =
@@ -319,7 +320,7 @@ one_side_is_quorate =
       joined = record { fits = fits; created = created; may = answered_1_may };
       first_configured = omega arith;
       second_configured = omega arith;
-      differ = not_same;
+      differ = λ same. one_is_not_zero (sym same);
       apart = views_apart (named_view 0 2 1).id (named_view 1 2 2).id;
       first_together = first_together;
       second_together = second_together;

@@ -1,9 +1,9 @@
--- A world that is not the one of the law of one lease: the arbiter's clock may be 2 per cent fast. This project's profile.
+-- A world that is not the one of the law of one lease: the arbiter's clock may be 2 per cent
+-- fast. This project's profile.
 use Rattle.std.specs.Prelude.{◌≡◌, ℕ, Bool, true, false, List, [], ◌∷◌, ◌*◌, ◌&&◌, IsTrue, is_none, nat_le}
 use Rattle.qn_base.specs.declared.ids.View.{View}
 use Rattle.qn_model.specs.declared.configuration.Settings.{Settings}
 use Rattle.qn_model.specs.declared.events.Event.{Event}
-use Rattle.qn_model.specs.declared.events.Event.TheVariants as event
 use Rattle.qn_model.specs.declared.times.Timing.{Timing}
 use Rattle.qn_model.specs.Laws.{AreDisjoint}
 use Rattle.qn_model.specs.Rules.{refusal}
@@ -17,7 +17,8 @@ use Rattle.qn_safety.specs.ArbiterRules.{is_arbiter_on, is_well_formed_beside, p
 use Rattle.qn_safety.specs.ArbiterSteps.{run_beside}
 use Rattle.qn_safety.specs.ArbiterWorld.{ArbiterWorld}
 
--- an event is allowed where the clock of a running arbiter may advance by 99 to 102 in 100 of a pass: all other rules stand
+-- an event is allowed where the clock of a running arbiter may advance by 99 to 102 in 100 of a
+-- pass: all other rules stand
 abbrev pub may_pass_faster : Settings → Timing → ℕ → Event → ArbiterWorld → Bool
 may_pass_faster s t advance one w =
     option_map_or (λ dt. is_arbiter_on w && nat_le (99 * dt) advance && nat_le advance (102 * dt)) (pass_of one) false
@@ -38,8 +39,8 @@ are_allowed_faster s t times [] = true
 are_allowed_faster s t times (event ∷ earlier) =
     is_well_formed_beside s event && is_allowed_faster s t event (run_beside s t times earlier) && are_allowed_faster s t times earlier
 
--- settings, safe timing, a safe lease and events that are so allowed, after which two running nodes with disjoint present views are
--- both quorate
+-- settings, safe timing, a safe lease and events that are so allowed, after which two running nodes
+-- with disjoint present views are both quorate
 pub record BrokenByFasterClock : Type 0 where
   pub settings : Settings
   pub timing : Timing

@@ -19,9 +19,9 @@ use Rattle.qn_beside.specs.Laws.{IsJoinedBeside, IsQuorateHost}
 abbrev pub host_after : Settings → Lease → (ℕ → List ℕ) → List BesideHappening → ℕ → Host
 host_after s times image happenings rank = (beside_after s times image happenings).joint.hosts rank
 
--- A joined run of two nodes and an arbiter with a safe lease. First both are quorate in one view. Then they are cut, and of two views
--- with no member in common one is quorate: its members have too few votes of their own, so it is so by the arbiter's yes. The node of the other
--- one runs on.
+-- A joined run of two nodes and an arbiter with a safe lease. First both are quorate in one view.
+-- Then they are cut, and of two views with no member in common one is quorate: its members have too
+-- few votes of their own, so it is so by the arbiter's yes. The node of the other one runs on.
 pub record OneSideIsQuorate : Type 0 where
   pub settings : Settings
   pub timing : Timing
@@ -46,6 +46,6 @@ pub record OneSideIsQuorate : Type 0 where
   pub first_quorate : IsQuorateHost settings left (host_after settings times image (after ++ together) first)
   pub few : votes_among settings.nodes left.members
       < (answer_with_tie settings (log_at (host_after settings times image (after ++ together) first).stand.spot)
-        (tick_of (host_after settings times image (after ++ together) first).clock)).quorum
+      (tick_of (host_after settings times image (after ++ together) first).clock)).quorum
   pub second_runs : is_timed settings (host_after settings times image (after ++ together) second) ≡ true
   pub second_sees : view (log_at (host_after settings times image (after ++ together) second).stand.spot) ≡ Some right
