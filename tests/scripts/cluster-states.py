@@ -6,7 +6,7 @@ import re
 import shutil
 import subprocess
 
-from clusterfiles import LOOP, TOP, holder, node, same, status, written
+from clusterfiles import IDS, LOOP, TOP, holder, node, same, status, written
 
 try:
     from jsonschema import Draft202012Validator
@@ -22,6 +22,7 @@ NAMING = {"id": 2, "members": [1, 2, 3], "candidate": 1}
 YES = {"address": "10.0.0.9:7432", "age": 400, "answer": "yes", "no": 1, "polls": 90, "refused": 0, "yes": 80}
 NONE = {**YES, "age": 200900, "answer": "none"}
 CUT = [{"hello_tick": -200, "id": 2}, {"hello_tick": -200, "id": 3, "network_down": 1}]
+FIVE = (1, 2, 3, 4, 5)
 OLD = {"tick": -3 * 60000 - 2000}  # three loops and two seconds
 
 WHYS = ["down", "no-view", "wait-for-all", "not-quorate:1/2", "not-chosen:1", "not-chosen:0", "held-by:2", "unheard:2", "unfenced:2:unwritten",
@@ -46,6 +47,21 @@ def teller(ident, **changes):
     """One that is heard and tells how it is."""
     told = {"group": 4, "held_ms": 0, "holds": False, "incarnation": 1, "leaving": False, "quorate": True, "tick": -150, **changes}
     return {**seen(ident), "refused": 0, "told": told}
+
+
+def on_networks(own, ids=IDS, **down):
+    """The peers of a node that says of these others, as n2, which network to them is down."""
+    numbers = {int(name[1:]): network for name, network in down.items()}
+    return [{**seen(ident), **({"network_down": numbers[ident]} if ident in numbers else {})} for ident in ids if ident != own]
+
+
+def joined(ids, *pairs, network=1):
+    """The files of nodes of which the first holds: between these pairs the network is down, and both say so."""
+    files = []
+    for own in ids:
+        down = {"n%d" % other: network for pair in pairs for other in pair if own in pair and other != own}
+        files.append((holder if own == ids[0] else node)(own, ids=ids, peers=on_networks(own, ids, **down)))
+    return files
 
 
 def waiting(**changes):
@@ -128,7 +144,25 @@ STATES = [
     ([holder(1, images=2), node(2), node(3)], 1, "1 holds; 1 runs on 2 of 3 images"),
     ([holder(1, images=2), node(2, images=1), node(3)], 1, "1 holds; 1 runs on 2 of 3 images; 2 runs on 1 of 3 images"),
     ([node(1, images=2), node(2), node(3)], 2, "1 runs on 2 of 3 images"),
-    ([holder(1, peers=CUT), node(2), node(3)], 1, "1 holds; network 1 to 3 is down"),
+    # which of two networks is down: all of it, to nodes that it joins with none, and between those that are left
+    ([holder(1, peers=CUT), node(2), node(3)], 1, "1 holds; network 1 between 1 and 3 is down"),
+    (joined(IDS, (1, 3), (2, 3)), 1, "1 holds; network 1 to 3 is down"),
+    (joined(IDS, (1, 2), (1, 3)), 1, "1 holds; network 1 to 1 is down"),
+    (joined(IDS, (1, 2), (1, 3), (2, 3), network=0), 1, "1 holds; network 0 is down"),
+    (joined((1, 2), (1, 2)), 1, "1 holds; network 1 is down"),
+    (joined(FIVE, *((one, other) for other in (4, 5) for one in FIVE if one < other)), 1, "1 holds; network 1 to 4, 5 is down"),
+    (joined(FIVE, (1, 2), (3, 4)), 1, "1 holds; network 1 between 1 and 2, 3 and 4 is down"),
+    (joined(FIVE, *((one, 5) for one in FIVE[:4]), (1, 2)), 1, "1 holds; network 1 to 5 is down; network 1 between 1 and 2 is down"),
+    # by the file of one node: what it knows
+    ([holder(1, peers=[teller(2), {**teller(3), "network_down": 1}])], 1, "1 holds; network 1 to 3 is down"),
+    ([holder(1, peers=[{**teller(2), "network_down": 0}, {**teller(3), "network_down": 1}])], 1, "1 holds; network 0 to 2 is down; network 1 to 3 is down"),
+    ([holder(1, peers=[{**teller(2), "network_down": 0}, {**teller(3), "network_down": 0}])], 1, "1 holds; network 0 is down"),
+    ([node(2, peers=[{**teller(1, holds=True), "name": "db1"}, {**teller(3), "name": "db3", "network_down": 1}])], 1, "db1 holds; network 1 to db3 is down"),
+    # a peer that is not heard is no end; what a stale file says counts for nothing; and it stands behind all else
+    ([holder(1, peers=[seen(2), {**lost(3), "network_down": 1}]), node(2, peers=[seen(1), lost(3)])], 1, "1 holds; 1 does not see 3; 2 does not see 3"),
+    ([holder(1), node(2), node(3, **OLD, peers=on_networks(3, n1=1, n2=1))], 1, "1 holds; 3 silent for S s; 3 tells nothing"),
+    ([holder(1, peers=[seen(2), {**teller(3), "network_down": 1}])], 1, "1 holds; 2 tells nothing; network 1 to 3 is down"),
+    ([node(own, why="not-chosen:0", peers=on_networks(own, **({"n3": 1} if own != 3 else {"n1": 1, "n2": 1}))) for own in IDS], 2, "network 1 to 3 is down"),
     ([holder(1, arbiter=YES), node(2), node(3)], 0, "1 holds (no group)"),
     ([holder(1, arbiter={**YES, "answer": "no"}), node(2), node(3)], 0, "1 holds (no group)"),
     ([holder(1, arbiter={**NONE, "age": 3 * LOOP}), node(2), node(3)], 0, "1 holds (no group)"),
@@ -137,7 +171,7 @@ STATES = [
     ([holder(1), node(2, arbiter={**NONE, "refused": 340}), node(3)], 1,
      "1 holds; device silent for 200 s (340 packets refused: another key or text)"),
     ([holder(1, arbiter=NONE, images=2, mail="exit", peers=CUT), node(2), node(3)], 1,
-     "1 holds; 1 has mail exit; 1 runs on 2 of 3 images; network 1 to 3 is down; device silent for 200 s"),
+     "1 holds; 1 has mail exit; 1 runs on 2 of 3 images; device silent for 200 s; network 1 between 1 and 3 is down"),
     ([holder(1), node(2), holder(3, **OLD, images=2, arbiter=NONE)], 1, "1 holds; 3 silent for S s; 3 tells nothing"),
     # nothing is known
     ([holder(1, **OLD), node(2, **OLD)], 3, "no node answers"),
