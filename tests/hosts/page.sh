@@ -79,7 +79,7 @@ from_nothing() {
         run check "$n" || return 1
     done
     judged_from_now
-    each_host run start && until_true 60 owns 1 && load && run look 1 && each_host unit_active
+    each_host run start && until_true 60 owns 1 && load && until_true 20 on 1 quorumctl status && run look 1 && each_host unit_active
 }
 unit_active() { unit_is "$1" active; }
 load_goes_on() { until_true "${1:-40}" grows "$(wc -l < "$room/acknowledged")"; }
