@@ -114,7 +114,7 @@ _quorumd_takes() {
         ;;
     timeline)
         operands=(file)
-        options=(--title/none/--title '--three-images//--three-images --arbiter --journal --record --id --settings' '--arbiter//--arbiter --three-images --journal --record --id --settings' '--journal//--journal --three-images --arbiter --record --id --settings' '--record//--record --three-images --arbiter --journal' '--id/none/--id --three-images --arbiter --journal' '--settings/file/--settings --three-images --arbiter --journal')
+        options=(--title/none/--title '--three-images//--three-images --arbiter --journal --record --id --settings' '--arbiter//--arbiter --three-images --journal --record --id --settings' '--journal//--journal --three-images --arbiter --record --id --settings' '--record//--record --three-images --arbiter --journal' '--id/none/--id --three-images --arbiter --journal' '--settings/file/--settings --three-images --arbiter --journal' --events/none/--events)
         ;;
     scenario)
         operands=(folder)

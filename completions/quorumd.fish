@@ -83,7 +83,7 @@ function __quorumd_takes
             set -g __quorumd_options --keep/file/--keep/FILE
         case timeline
             set -g __quorumd_operands file
-            set -g __quorumd_options --title/none/--title/TITLE '--three-images//--three-images --arbiter --journal --record --id --settings/' '--arbiter//--arbiter --three-images --journal --record --id --settings/' '--journal//--journal --three-images --arbiter --record --id --settings/' '--record//--record --three-images --arbiter --journal/' '--id/none/--id --three-images --arbiter --journal/ID' '--settings/file/--settings --three-images --arbiter --journal/CONF'
+            set -g __quorumd_options --title/none/--title/TITLE '--three-images//--three-images --arbiter --journal --record --id --settings/' '--arbiter//--arbiter --three-images --journal --record --id --settings/' '--journal//--journal --three-images --arbiter --record --id --settings/' '--record//--record --three-images --arbiter --journal/' '--id/none/--id --three-images --arbiter --journal/ID' '--settings/file/--settings --three-images --arbiter --journal/CONF' --events/none/--events/FIRST..LAST
         case scenario
             set -g __quorumd_operands folder
         case storm

@@ -36,6 +36,10 @@ def overlaps_of(lanes):
             for _, other_last, other in holds[:place] if other != name and first < other_last and first < last]
 
 
+class NoEvents(Exception):
+    """Events that a timeline does not have."""
+
+
 class LaneMaker:
     """A lane as it is made, point by point: it keeps what began and has not ended."""
 
@@ -107,6 +111,17 @@ class ClusterLanes:
     def timeline(self, title):
         lanes = [maker.ended(len(self.times)) for maker in self.makers.values()]
         return Timeline(title, "event", self.times, lanes, overlaps_of(lanes))
+
+
+def part_of(timeline, first, last):
+    """A timeline of these events alone: what goes on before the first of them is drawn from there, and what goes on after the last one goes on."""
+    begin, times = first - 1, timeline.times[:last + 1]
+    times[:begin] = [times[begin]] * begin
+
+    def within(spans):
+        return [span._replace(first=max(span.first, begin), last=min(span.last, len(times))) for span in spans if begin < span.last and span.first <= last]
+    lanes = [Lane(lane.name, within(lane.spans), [mark for mark in lane.marks if begin < mark.point <= last]) for lane in timeline.lanes]
+    return timeline._replace(times=times, lanes=lanes, overlaps=within(timeline.overlaps))
 
 
 def lanes_of(title, ids, events, reports, node=Node):

@@ -181,8 +181,8 @@ quorumd-collect --since today --;> --until
 quorumd-resource ;> run status check move maintenance
 quorumd-resource maintenance ;> on off
 /usr/share/quorumd/bin/story --;> --keep
-timeline --journal --;> --title
-timeline --record --;> --title --id --settings
+timeline --journal --;> --events --title
+timeline --record --;> --events --title --id --settings
 examples/live/scenario files/;> folder
 END
 for shell in bash zsh fish; do

@@ -19,7 +19,7 @@ From a rule of a page to what says it and what does it:
 
 | Looked for | Where it is |
 |---|---|
-| its definition | the page names it, or its crate; `grep -rn 'pub NAME :' crates/*/specs` |
+| its definition | the page names it, or its crate; `grep -rn 'pub NAME :' crates/*/specs`. A word of the page, as *in dispute*, stands in the comment above it: `grep -rn 'in dispute' crates/qn_member/specs` |
 | the code | `src/` of a crate that cites the definition in an `ensures`: `grep -rnw NAME crates/*/src` |
 | the proof | `proofs/FILE/FUNCTION/` of that crate; without such a folder the check needed no help |
 | a wrong edit that the check refuses | `tests/edits/` |

@@ -28,8 +28,13 @@ done
 for folder in "$TOP"/examples/three-images/*/; do
     is_shown "$folder" --three-images
 done
-for folder in "$TOP"/examples/arbiter/*/; do
-    is_shown "$folder" --arbiter
+# a schedule in two pictures, each of some of its events
+folder=$TOP/examples/arbiter/the-vote-moves
+for part in 'leased 1..57 The vote is leased' 'moves 57..108 The vote moves'; do
+    read -r name events title <<< "$part"
+    timeline --title "$title" --arbiter --events "$events" "$folder/schedule" > drawn.svg
+    cmp drawn.svg "$folder/$name.svg"
+    grep -q "]($name.svg)" "$folder/story.md"
 done
 
 # refused STATUS PATTERN WORD..: bin/timeline ends with this status, writes no picture, and says this on standard error
@@ -41,14 +46,20 @@ refused() {
     grep -qE "$pattern" errors || { printf 'timeline %s: %s\n' "$*" "$(cat errors)"; exit 1; }
 }
 
-refused 2 '^usage: timeline \[--title TITLE\] \[--three-images | --arbiter | --journal | --record \[--id ID --settings CONF\]\] \[FILE\]' --colour < "$TOP/examples/letting-time-pass.schedule"
-refused 2 '^usage: timeline \[--title TITLE\] \[--three-images | --arbiter | --journal | --record \[--id ID --settings CONF\]\] \[FILE\]' one two
-refused 2 '^usage: timeline \[--title TITLE\] \[--three-images | --arbiter | --journal | --record \[--id ID --settings CONF\]\] \[FILE\]' no-such-file
+refused 2 '^usage: timeline \[--title TITLE\] \[--three-images | --arbiter | --journal | --record \[--id ID --settings CONF\]\] \[--events FIRST..LAST\] \[FILE\]' --colour < "$TOP/examples/letting-time-pass.schedule"
+refused 2 '^usage: timeline \[--title TITLE\] \[--three-images | --arbiter | --journal | --record \[--id ID --settings CONF\]\] \[--events FIRST..LAST\] \[FILE\]' one two
+refused 2 '^usage: timeline \[--title TITLE\] \[--three-images | --arbiter | --journal | --record \[--id ID --settings CONF\]\] \[--events FIRST..LAST\] \[FILE\]' no-such-file
 refused 4 '^timeline: fault BadSchedule line 1 Unended$' < /dev/null
 refused 3 '^timeline: fault BadConf ' < <(printf 'nodelist {\n----\n')
 refused 5 '^timeline: fault NotAllowed line 19 rule 1$' < <(sed '1,/^boot/!d' "$TOP/examples/letting-time-pass.schedule"; echo 'pass 5051')
 
 refused 17 '^timeline: fault UnsafeLease 10000 2000 12243$' --arbiter < <(sed '/^lease/s/12244/12243/' "$TOP/examples/arbiter/the-vote-moves/schedule")
+
+# events that are none
+refused 2 '^timeline: --events 5..4: there are the events 1 to 108$' --arbiter --events 5..4 "$folder/schedule"
+refused 2 '^timeline: --events 1..109: there are the events 1 to 108$' --arbiter --events 1..109 "$folder/schedule"
+refused 2 '^timeline: .*--events FIRST..LAST' --arbiter --events 0..1 "$folder/schedule"
+refused 2 '^timeline: .*--events FIRST..LAST' --journal --events 1..2 "$TOP/examples/live/journal"
 
 # an arbiter that crashes is bound no more, and gives no yes for a lease from its next boot on
 sed '/^hear 0$/q' "$TOP/examples/arbiter/the-vote-moves/schedule" > crashing
