@@ -14,8 +14,7 @@ from traces import program
 
 TOP = pathlib.Path(__file__).resolve().parent.parent
 KINDS = ("quiet", "cuts", "kills", "pauses", "disks", "damages", "operators", "losses", "leaves", "restarts", "agents", "isolations", "links",
-         "device-links", "named-links", "standbys", "witness", "outages", "device", "images", "mixed", "arbiter")
-POLL_LIMIT = 2000  # of nodes that poll an arbiter, whose device has the usual timeout
+         "device-links", "named-links", "standbys", "witness", "outages", "device", "images", "mixed")
 LINKED = ("links", "device-links", "named-links")  # kinds whose seeds are patterns of cut links, one after another
 SPREAD = 7919  # from one of their seeds to the next, so that few seeds are patterns of all sorts, while the nodes run and before they boot
 NODES = (3, 2, 5)
@@ -144,7 +143,7 @@ def write_logs(folder, run):
     for log in text.split("\n", 1)[1].split("log ")[1:]:
         head, lines = log.split("\n", 1)
         ident, _, mode, _, leave = map(int, re.sub(r"[a-z-]+", "0", head).split())
-        words = ["--id", str(ident), "--turns", "1000000000"] + ["--images", "3"] * (run.images == 3) + ["--polls", str(POLL_LIMIT)] * (run.kind == "arbiter")
+        words = ["--id", str(ident), "--turns", "1000000000"] + ["--images", "3"] * (run.images == 3)
         audits.append((ident, leave or None, words + ["--start-mode", "1"] * (mode == 1) + ["--leave", str(leave)] * (leave != 0)))
         (folder / ("log.%d" % ident)).write_text(lines)
         said = [line for line in errors.splitlines(True) if line.startswith("quorumd: node=%d " % ident)]
