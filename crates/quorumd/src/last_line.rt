@@ -1,4 +1,6 @@
 //! The last line that a command wrote: where it is a fault, an operator is told what can be done.
+ghost use Rattle.std.specs.Prelude.{◌≡◌};
+
 use arrayvec::ArrayVec;
 use qn_base::Failed;
 use qn_io::Sink;
