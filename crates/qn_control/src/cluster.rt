@@ -518,6 +518,7 @@ impl<'a> Words<'a> {
 }
 
 /// A part of a line that lists where a network is down.
+#[derive(Drop)]
 struct Listed {
     network: u64,
     /// What stands before the first one.
