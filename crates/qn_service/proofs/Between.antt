@@ -1,6 +1,6 @@
 -- The moments between the worlds of two joints are those of joints between.
-use Rattle.std.proofs.Common.{◌≡◌, ◌⊎◌, inl, inr, ℕ, Bool, true, false, List, [], ◌∷◌, ◌++◌, Option, None, Some, refl, sym, ◌∙◌, ap, subst, arith}
-use Rattle.std.specs.Prelude.{length, slice_get}
+use Rattle.std.proofs.Common.{◌≡◌, ◌⊎◌, inl, inr, ℕ, List, [], ◌∷◌, ◌++◌, Option, None, Some, refl, sym, subst}
+use Rattle.std.specs.Prelude.{slice_get}
 use Rattle.std.specs.Option.{option_map_or, option_to_list}
 use Rattle.qn_model.specs.declared.configuration.Settings.{Settings}
 use Rattle.qn_model.specs.declared.entries.What.{What}
@@ -13,10 +13,9 @@ use Rattle.qn_model.specs.Moments.{Adds, Before, Itself, Later, Moment, packets}
 use Rattle.qn_model.specs.Steps.{answered, entry_of, fails, happens, landed, lands_late, run, step}
 use Rattle.qn_model.specs.World.{World, numbered, op_at}
 use Rattle.qn_safety.specs.Earlier.{before_joined, before_length, before_same, before_then}
-use Rattle.qn_joined.specs.Joints as joints
 use Rattle.qn_joined.specs.Joints.{AllMayHappen, FitsImage, Happening, joint_after}
 use Rattle.qn_joined.specs.Moves.{AddsOne, EachIsOneEvent, HasStepped, IsEventOf}
-use Rattle.qn_joined.specs.WorldOf.{HasWorld, IsWorld}
+use Rattle.qn_joined.specs.WorldOf.{HasWorld}
 use Rattle.qn_service.specs.Between.{HasMoments, IsOfJoint, MomentsAreOfJoints}
 
 -- moments stay, or there is one more

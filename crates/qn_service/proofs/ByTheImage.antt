@@ -1,5 +1,5 @@
 -- In every joint a node that runs works with the loop's time of the image, so each look does.
-use Rattle.std.proofs.Common.{◌≡◌, ◌⊎◌, inl, inr, ℕ, ◌<◌, ◌≤◌, Bool, true, false, ◌==◌, List, [], ◌∷◌, Option, None, Some, if◌then◌else◌, refl, sym, ◌∙◌, ap, subst, arith}
+use Rattle.std.proofs.Common.{◌≡◌, ◌⊎◌, inl, inr, ℕ, ◌<◌, ◌≤◌, Bool, true, false, ◌==◌, List, [], ◌∷◌, Option, None, Some, if◌then◌else◌, refl, sym, ◌∙◌, ap, subst}
 use Rattle.std.specs.Prelude.{IsTrue, length}
 use Rattle.std.specs.Option.{option_map_or}
 use Rattle.std.proofs.lemmas.Bool.{cases_lt, eqb-true, false≢true}
@@ -9,19 +9,17 @@ use Rattle.qn_base.specs.declared.calls.Call.TheVariants as call
 use Rattle.qn_base.specs.Calls.{blank}
 use Rattle.qn_model.specs.declared.configuration.Settings.{Settings}
 use Rattle.qn_model.specs.declared.times.Timing.{Timing}
-use Rattle.qn_model.specs.Log.{now}
 use Rattle.qn_model.specs.Moments.{is_gone, tick_of}
-use Rattle.qn_model.specs.NodeOutputs.{newest_outs}
 use Rattle.qn_model.specs.Phases.{phase}
 use Rattle.qn_model.specs.Sectors.{header_bytes}
-use Rattle.qn_model.specs.Timing.{has_periods, is_safe}
+use Rattle.qn_model.specs.Timing.{has_periods}
 use Rattle.qn_model.specs.World.{numbered, put, without}
 use Rattle.qn_sector.specs.Reading.{header_of}
-use Rattle.qn_joined.specs.AnyImage.{EveryJointHasAWorldAgain, IsRejoined}
-use Rattle.qn_joined.specs.Joints.{AllMayHappen, Begins, Ends, Feeds, FitsImage, Happening, Host, IsJoined, Joint, Lands, LandsLate, Looks, MayAnswer, Operates, Passes, Returns, after_effect, began, ended, happens, is_disk, joint_after, landed_image, looked_first, returned, takes, waits_for, with_host}
-use Rattle.qn_joined.specs.Stands.{Spot, after_call, log_at}
+use Rattle.qn_joined.specs.AnyImage.{EveryJointHasAWorldAgain}
+use Rattle.qn_joined.specs.Joints.{AllMayHappen, Begins, Ends, Feeds, Happening, Host, Joint, Lands, LandsLate, Looks, MayAnswer, Operates, Passes, Returns, began, ended, happens, is_disk, joint_after, landed_image, looked_first, returned, takes, waits_for, with_host}
+use Rattle.qn_joined.specs.Stands.{log_at}
 use Rattle.qn_joined.specs.WorldOf.{EveryJointHasAWorld, HasWorld, IsEnding}
-use Rattle.qn_service.specs.Looks.{EachLook, look_of}
+use Rattle.qn_service.specs.Looks.{EachLook}
 use Rattle.qn_service.specs.Loops.{HasLoop, LooksByTheImage, LooksByTheImageAgain}
 use Rattle.qn_service.proofs.Timing.{WorksAt, first_works, look_works, spot_works}
 

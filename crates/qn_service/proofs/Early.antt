@@ -1,21 +1,20 @@
 -- A node that has not read its header boots, or its boot was halted.
-use Rattle.std.proofs.Common.{◌≡◌, ◌⊎◌, inl, inr, ℕ, Bool, true, false, ◌&&◌, List, [], ◌∷◌, Option, None, Some, if◌then◌else◌, refl, sym, ◌∙◌, ap, subst}
+use Rattle.std.proofs.Common.{◌≡◌, ◌⊎◌, inl, inr, ℕ, Bool, true, false, ◌&&◌, List, [], Option, None, Some, if◌then◌else◌, refl, sym, ◌∙◌, ap, subst}
 use Rattle.std.specs.Option.{option_or}
 use Rattle.std.proofs.lemmas.Bool.{false≢true}
 use Rattle.std.proofs.lemmas.Option.{none-some}
 use Rattle.qn_model.specs.declared.configuration.Settings.{Settings}
-use Rattle.qn_model.specs.declared.entries.Entry.{Entry}
 use Rattle.qn_model.specs.declared.entries.What.{What}
 use Rattle.qn_model.specs.declared.entries.What.TheVariants as what
 use Rattle.qn_model.specs.declared.life.Phase.{Phase}
-use Rattle.qn_model.specs.declared.life.Phase.TheVariants.{Booting, Up, Leaving, Dying, Gone}
+use Rattle.qn_model.specs.declared.life.Phase.TheVariants.{Booting, Gone}
 use Rattle.qn_model.specs.declared.outputs.DiskOp.{DiskOp}
 use Rattle.qn_model.specs.declared.outputs.DiskOp.TheVariants as disk
 use Rattle.qn_model.specs.declared.seen.HeaderSeen.TheVariants as header
-use Rattle.qn_model.specs.Fitting.{answers_op, fits, read_as}
+use Rattle.qn_model.specs.Fitting.{answers_op, fits}
 use Rattle.qn_model.specs.Log.{Line, begins_clean, disk_of, is_answer, op_out, slot_number, times_of}
-use Rattle.qn_model.specs.NodeOutputs.{boot_outs, is_boot_step, live_outs, mail_feeds, outs_at, taken_in, with_entry, with_read}
-use Rattle.qn_model.specs.Phases.{deadly_of, in_time, is_booting, is_live, message_of, next_phase, phase}
+use Rattle.qn_model.specs.NodeOutputs.{boot_outs, boot_step_outs, is_boot_step, live_outs, mail_feeds, outs_at, taken_in, with_entry, with_read}
+use Rattle.qn_model.specs.Phases.{boot_halt, deadly_of, in_time, is_booting, is_live, is_up, message_of, next_phase, phase}
 
 -- before the header was read no other operation comes out
 abbrev pub IsUnread : Option DiskOp → Type 0
@@ -65,7 +64,7 @@ module _ (s : Settings) (me : ℕ) (past : List Line) (tick : ℕ) (boots : phas
       quiet = boot_gives entry ∙ by_step (is_boot_step entry) calm
         where
           by_step : (b : Bool) → b ≡ false
-              → (if b then Rattle.qn_model.specs.NodeOutputs.boot_step_outs me (begins_clean (taken_in past tick entry)) (slot_number (taken_in past tick entry)) entry (Rattle.qn_model.specs.Phases.boot_halt s entry) else []) ≡ []
+              → (if b then boot_step_outs me (begins_clean (taken_in past tick entry)) (slot_number (taken_in past tick entry)) entry (boot_halt s entry) else []) ≡ []
           by_step false e = refl
           by_step true e = absurd (false≢true (sym e))
 
@@ -102,7 +101,7 @@ module _ (s : Settings) (me : ℕ) (past : List Line) (tick : ℕ) (boots : phas
   fit_early (what.Ask ask) none fit = absurd (live_first (phase s past) _ boots fit)
   fit_early (what.Tell tell) none fit = absurd (live_first (phase s past) _ boots fit)
   fit_early (what.Device agrees) none fit = absurd (false≢true (sym (ap is_live boots) ∙ fit))
-  fit_early what.Leave none fit = absurd (false≢true (sym (ap Rattle.qn_model.specs.Phases.is_up boots) ∙ fit))
+  fit_early what.Leave none fit = absurd (false≢true (sym (ap is_up boots) ∙ fit))
   fit_early what.Tick none fit = calm_early what.Tick refl refl (λ timely. refl)
   fit_early (what.Stopped ok) none fit = calm_early (what.Stopped ok) refl refl (λ timely. refl)
 

@@ -4,14 +4,13 @@ use Rattle.std.specs.Prelude.{IsTrue, length}
 use Rattle.std.proofs.lemmas.Bool.{and_from, and_parts, cases_lt, false≢true}
 use Rattle.qn_model.specs.declared.configuration.Settings.{Settings}
 use Rattle.qn_model.specs.declared.events.Event.{Event}
-use Rattle.qn_model.specs.declared.life.Phase.{Phase}
 use Rattle.qn_model.specs.declared.life.Phase.TheVariants.{Booting, Up}
 use Rattle.qn_model.specs.declared.entries.What.{What}
 use Rattle.qn_model.specs.declared.outputs.DiskOp.{DiskOp}
 use Rattle.qn_model.specs.declared.packets.Sent.{Sent}
 use Rattle.qn_model.specs.declared.times.Timing.{Timing}
 use Rattle.qn_model.specs.Holding.{holds, stop_due}
-use Rattle.qn_model.specs.Log.{Line, now}
+use Rattle.qn_model.specs.Log.{now}
 use Rattle.qn_model.specs.Moments.{Before, Itself, Later, Moment, Running, is_gone, is_holder, node}
 use Rattle.qn_model.specs.NodeVotes.{quorate_with_tie}
 use Rattle.qn_model.specs.Phases.{is_up, phase}
@@ -24,7 +23,7 @@ use Rattle.qn_joined.specs.Theorem.{AlwaysOwns}
 use Rattle.qn_joined.specs.WorldOf.{EveryJointHasAWorld, HasWorld, IsNode, IsWorld}
 use Rattle.qn_progress.specs.Hearing.{HasHeld}
 use Rattle.qn_progress.specs.Keeping.{AndThen, FromHere, KeepsOn, MayKeep, MayKeepSince}
-use Rattle.qn_service.specs.Between.{HasMoments, IsOfJoint, MayOwn, MomentsAreOfJoints, OwnersGoOn}
+use Rattle.qn_service.specs.Between.{HasMoments, MayOwn, MomentsAreOfJoints, OwnersGoOn}
 use Rattle.qn_service.specs.Holders.{HoldersRun}
 
 -- a member that holds at some moment goes on holding while it may keep

@@ -1,5 +1,5 @@
 -- Whom a look hears within three loops of the image it finds together with its node.
-use Rattle.std.proofs.Common.{◌≡◌, ◌⊎◌, inl, inr, ℕ, ◌≤◌, ◌+◌, ◌*◌, Bool, true, false, ◌&&◌, ◌||◌, ◌==◌, List, [], ◌∷◌, Option, None, Some, refl, sym, ◌∙◌, ap, subst, arith}
+use Rattle.std.proofs.Common.{◌≡◌, inl, ℕ, ◌≤◌, ◌+◌, ◌*◌, true, false, ◌&&◌, ◌==◌, List, [], ◌∷◌, Option, None, Some, ◌∙◌, ap, arith}
 use Rattle.std.specs.Prelude.{IfSome, nat_le}
 use Rattle.std.specs.Option.{option_map_or}
 use Rattle.std.proofs.lemmas.Bool.Decides.{nat_tests}
@@ -11,7 +11,7 @@ use Rattle.qn_joined.specs.Joints.{Happening}
 use Rattle.qn_service.specs.Heard.{HearsAll, HearsInTime, NobodyHeardIsReset}
 use Rattle.qn_service.specs.Looks.{EachLook, LookOf, look_of}
 use Rattle.qn_service.specs.Loops.{HasLoop, LooksByTheImage}
-use Rattle.qn_service.specs.Unheard.{IsTogether, KeepsAll, NobodyIsReset}
+use Rattle.qn_service.specs.Unheard.{KeepsAll, NobodyIsReset}
 
 -- two things that are so of each look
 both_looks : (s : Settings) (image : ℕ → List ℕ) (P Q R : LookOf → Type 0) → ((look : LookOf) → P look → Q look → R look) → (h : List Happening)

@@ -1,5 +1,5 @@
 -- In every joint a resource that a log holds runs, or a Stop of it is unanswered.
-use Rattle.std.proofs.Common.{◌≡◌, ◌⊎◌, inl, inr, ℕ, Bool, true, false, ◌&&◌, ◌==◌, List, [], ◌∷◌, Option, None, Some, if◌then◌else◌, refl, sym, ◌∙◌, ap, subst}
+use Rattle.std.proofs.Common.{◌≡◌, ◌⊎◌, inl, inr, ℕ, Bool, true, false, ◌&&◌, ◌==◌, List, [], ◌∷◌, Option, None, Some, if◌then◌else◌, sym, subst}
 use Rattle.std.specs.Option.{option_map_or}
 use Rattle.std.proofs.lemmas.Bool.{and_from}
 use Rattle.qn_base.specs.declared.calls.Call.{Call}
@@ -7,7 +7,7 @@ use Rattle.qn_base.specs.declared.calls.Call.TheVariants as call
 use Rattle.qn_base.specs.Calls.{blank}
 use Rattle.qn_model.specs.declared.configuration.Settings.{Settings}
 use Rattle.qn_model.specs.declared.times.Timing.{Timing}
-use Rattle.qn_model.specs.Holding.{holds, stop_due}
+use Rattle.qn_model.specs.Holding.{stop_due}
 use Rattle.qn_model.specs.Moments.{tick_of}
 use Rattle.qn_model.specs.NodeOutputs.{newest_outs}
 use Rattle.qn_model.specs.World.{numbered, put, without}

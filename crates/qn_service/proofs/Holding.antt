@@ -2,17 +2,15 @@
 use Rattle.std.proofs.Common.{◌≡◌, ◌⊎◌, inl, inr, ℕ, suc, zero, Bool, true, false, not, ◌&&◌, ◌||◌, List, [], ◌∷◌, Option, None, Some, if◌then◌else◌, refl, sym, ◌∙◌, ap, subst}
 use Rattle.std.specs.Prelude.{nat_lt, option_and_then}
 use Rattle.std.specs.Option.{option_map_or}
-use Rattle.std.proofs.lemmas.Bool.{and_parts, false≢true, not-true, or_left}
+use Rattle.std.proofs.lemmas.Bool.{false≢true, or_left, or_right}
 use Rattle.std.proofs.lemmas.Option.{same_Some}
 use Rattle.qn_base.specs.declared.calls.Call.{Call}
 use Rattle.qn_base.specs.declared.calls.Call.TheVariants as call
 use Rattle.qn_base.specs.declared.calls.Received.{Received}
-use Rattle.qn_base.specs.declared.ids.View.{View}
 use Rattle.qn_base.specs.Calls.{blank, is_failed}
 use Rattle.qn_base.specs.Plans.{question}
 use Rattle.qn_io.specs.Answered.{bytes_read, received_in, time_of}
 use Rattle.qn_model.specs.declared.configuration.Settings.{Settings}
-use Rattle.qn_model.specs.declared.entries.Entry.{Entry}
 use Rattle.qn_model.specs.declared.entries.What.{What}
 use Rattle.qn_model.specs.declared.entries.What.TheVariants as what
 use Rattle.qn_model.specs.declared.outputs.DiskOp.{DiskOp}
@@ -22,15 +20,13 @@ use Rattle.qn_model.specs.declared.outputs.Out.TheVariants as out
 use Rattle.qn_model.specs.declared.packets.Packet.{Packet}
 use Rattle.qn_model.specs.declared.packets.Packet.TheVariants as packet
 use Rattle.qn_model.specs.declared.packets.Sent.{Sent}
-use Rattle.qn_model.specs.Fitting.{fits, read_as}
+use Rattle.qn_model.specs.Fitting.{read_as}
 use Rattle.qn_model.specs.Holding.{answers_stop, holds, is_stopped, stop_due}
 use Rattle.qn_model.specs.Log.{Line, has_start, has_stop, now}
-use Rattle.qn_model.specs.Moments.{begin_of}
 use Rattle.qn_model.specs.NodeOutputs.{newest_outs, with_entry}
 use Rattle.qn_model.specs.Steps.{entry_of}
 use Rattle.qn_model.specs.World.{failed}
 use Rattle.qn_member.specs.Naming.{NamingMaker}
-use Rattle.qn_member.specs.NamingViews.{answer_at}
 use Rattle.qn_safety.specs.declared.polls.Poll.{Poll}
 use Rattle.qn_safety.specs.declared.polls.Reply.{Reply}
 use Rattle.qn_safety.specs.Poller.{Poller, answer_taken}
@@ -39,11 +35,11 @@ use Rattle.qn_live.specs.declared.place.Choice.{Choice}
 use Rattle.qn_live.specs.declared.place.Choice.TheVariants as choice
 use Rattle.qn_live.specs.declared.place.Waits.{Waits}
 use Rattle.qn_live.specs.declared.words.Own.{Own}
-use Rattle.qn_live.specs.Choosing.{choice_in, choice_of, is_entry_for, is_late, is_to_leave, looked, looking, own_of, packet_in, ready, told, view_or_tick}
+use Rattle.qn_live.specs.Choosing.{choice_in, choice_of, heard_request, is_entry_for, is_late, is_to_leave, looked, looking, own_of, packet_in, ready}
 use Rattle.qn_live.specs.Performing.{disk_answer, disk_call, done, end_in, noted, out_call, outs_plan, own_number, waits_after}
 use Rattle.qn_live.specs.Greetings.{sends_plan}
 use Rattle.qn_live.specs.Polling.{answered, answered_at, choice_beside, is_device, is_reply_for, poll_due, polled, reply_in}
-use Rattle.qn_live.specs.Running.{RunState, first_state}
+use Rattle.qn_live.specs.Running.{RunState}
 use Rattle.qn_live.specs.Runs.{asked_maker, greets, looked_at, taken}
 use Rattle.qn_joined.specs.Joints.{Host, after_effect}
 use Rattle.qn_joined.specs.Owning.{is_done_stop, is_no_stop, stops_in}
@@ -511,7 +507,7 @@ back_runs : (chosen : Choice × RunState) (outs : List Out) (runs : Bool) → Ta
 back_runs chosen outs runs takes held = by_either (takes.held held)
   where
     by_either : (runs ≡ true) ⊎ (stops_in chosen.0 ≡ true) → ((has_start outs || runs) ≡ true) ⊎ (stop_due chosen.1.log ≡ true)
-    by_either (inl is) = inl (Rattle.std.proofs.lemmas.Bool.or_right (has_start outs) runs is)
+    by_either (inl is) = inl (or_right (has_start outs) runs is)
     by_either (inr is) = inr (takes.due is)
 
 clocked_runs : (s : Settings) (me : ℕ) (leave : Option ℕ) (turn more tick : ℕ) (chosen : Choice × RunState) (back : Bool) (runs : Bool)
@@ -582,7 +578,7 @@ pub spot_goes_on : (s : Settings) (me : ℕ) (leave : Option ℕ) (turn more : �
     → RunsAt (after_spot s me leave turn more spot made).spot (runs_after made (newest_outs (log_at (after_spot s me leave turn more spot made).spot)) runs)
 unfolding left_plan after_spot outs_plan sends_plan
 spot_goes_on s me leave turn more (Receiving st) made runs asked at =
-    subst (λ r. RunsAt (Looking (choice_in me st.poller (received_in made), Rattle.qn_live.specs.Choosing.heard_request (received_in made) st)) r) (sym (runs_on _ made (newest_outs st.log) runs refl asked))
+    subst (λ r. RunsAt (Looking (choice_in me st.poller (received_in made), heard_request (received_in made) st)) r) (sym (runs_on _ made (newest_outs st.log) runs refl asked))
     (record {
       held = λ is. inl (still st.log st.waits.stopped runs at.1 at.0.held is);
       due = λ is. absurd (received_stops me st.poller (received_in made) is);

@@ -9,14 +9,13 @@ use Rattle.qn_base.specs.declared.ids.View.{View}
 use Rattle.qn_model.specs.declared.configuration.Settings.{Settings}
 use Rattle.qn_model.specs.declared.packets.Packet.{Packet}
 use Rattle.qn_model.specs.declared.packets.Packet.TheVariants as packet
-use Rattle.qn_member.specs.Announcing.{is_beat}
-use Rattle.qn_member.specs.Maker.{Maker, after_announce, after_hello, after_tick, company_at, first_maker, has_configured, installed_beside, is_configured, led_by, looked, plain, says_more, view_at}
-use Rattle.qn_member.specs.Naming.{NamingMaker, after_named_announce, after_named_hello, after_named_plain_hello, after_stand, after_standing, first_naming, has_bit, is_other, is_own, knows_bit}
-use Rattle.qn_member.specs.NamingViews.{after_by_name, after_found, after_look, after_naming_hello_due, after_plain_look, company_now, is_naming_hello_due, looked_by_name, seeing_names, view_announced, view_by_name}
+use Rattle.qn_member.specs.Maker.{Maker, after_announce, after_hello, after_tick, company_at, has_configured, installed_beside, is_configured, led_by, looked, plain, says_more, view_at}
+use Rattle.qn_member.specs.Naming.{NamingMaker, after_named_announce, after_named_hello, after_stand, after_standing, first_naming, has_bit, is_other, is_own, knows_bit}
+use Rattle.qn_member.specs.NamingViews.{after_by_name, after_found, after_look, after_naming_hello_due, after_plain_look, company_now, is_naming_hello_due, looked_by_name, seeing_names, view_by_name}
 use Rattle.qn_live.specs.declared.words.Own.{Own}
 use Rattle.qn_live.specs.Choosing.{heard, told}
 use Rattle.qn_live.specs.Greetings.{maker_begun, maker_where}
-use Rattle.qn_service.proofs.Made.{if_is, leading_keeps, looked_notes}
+use Rattle.qn_service.proofs.Made.{leading_keeps, looked_notes}
 
 abbrev pub loop_of : NamingMaker → ℕ
 loop_of m = m.maker.loop_ms

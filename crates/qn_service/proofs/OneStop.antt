@@ -1,5 +1,5 @@
 -- An entry gives one Stop at most, and it comes first.
-use Rattle.std.proofs.Common.{◌≡◌, ◌⊎◌, inl, inr, ℕ, Bool, true, false, not, ◌&&◌, ◌||◌, List, [], ◌∷◌, ◌++◌, Option, None, Some, filter, length, map, if◌then◌else◌, refl, sym, ◌∙◌, ap, subst}
+use Rattle.std.proofs.Common.{◌≡◌, ◌⊎◌, inl, inr, ℕ, Bool, true, false, not, ◌||◌, List, [], ◌∷◌, ◌++◌, Option, None, Some, filter, length, map, if◌then◌else◌, refl, sym, ap, subst}
 use Rattle.std.specs.List.{range_with_len}
 use Rattle.std.specs.Option.{option_map_or}
 use Rattle.std.proofs.lemmas.Bool.{false≢true}
@@ -16,7 +16,7 @@ use Rattle.qn_model.specs.declared.outputs.Out.TheVariants as out
 use Rattle.qn_model.specs.Fitting.{read_as}
 use Rattle.qn_model.specs.Holding.{holds}
 use Rattle.qn_model.specs.Log.{Line, begins_clean, has_stop, slot_number}
-use Rattle.qn_model.specs.NodeOutputs.{acts, ask_to, asks, boot_outs, boot_step_outs, disk_outs, gives_start, gives_stop, is_asked, is_asking, is_begin, is_boot_step, live_outs, mail_feeds, newest_outs, outs_at, replies, taken_in, when, with_entry}
+use Rattle.qn_model.specs.NodeOutputs.{acts, ask_to, asks, boot_step_outs, disk_outs, gives_start, gives_stop, is_asked, is_asking, is_begin, is_boot_step, live_outs, mail_feeds, newest_outs, outs_at, replies, taken_in, when, with_entry}
 use Rattle.qn_model.specs.NodeVotes.{view}
 use Rattle.qn_model.specs.Phases.{boot_halt, deadly_of, is_booting, is_live, message_of, phase}
 use Rattle.qn_model.specs.Wanted.{boot_op, wanted_with_delay}

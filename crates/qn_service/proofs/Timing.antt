@@ -1,5 +1,5 @@
 -- From call to call: a running node works with the loop's time of the image, once it has read its header.
-use Rattle.std.proofs.Common.{◌≡◌, ◌⊎◌, inl, inr, ℕ, suc, zero, Bool, true, false, List, [], ◌∷◌, Option, None, Some, if◌then◌else◌, refl, sym, ◌∙◌, ap, subst}
+use Rattle.std.proofs.Common.{◌≡◌, ◌⊎◌, inl, inr, ℕ, suc, zero, Bool, true, false, List, [], ◌∷◌, Option, None, Some, if◌then◌else◌, refl, sym, ◌∙◌, ap}
 use Rattle.std.specs.Prelude.{nat_lt, option_and_then, IfSome, length}
 use Rattle.std.specs.Option.{option_map_or}
 use Rattle.std.proofs.lemmas.Bool.{false≢true}
@@ -21,11 +21,12 @@ use Rattle.qn_model.specs.declared.outputs.Out.TheVariants as out
 use Rattle.qn_model.specs.declared.packets.Packet.{Packet}
 use Rattle.qn_model.specs.declared.packets.Packet.TheVariants as packet
 use Rattle.qn_model.specs.declared.packets.Sent.{Sent}
+use Rattle.qn_model.specs.declared.seen.HeaderSeen.TheVariants as header
 use Rattle.qn_model.specs.declared.times.Timing.{Timing}
 use Rattle.qn_model.specs.lemmas.Failures.{failed_times}
 use Rattle.qn_model.specs.Log.{Line, now, times_of}
 use Rattle.qn_model.specs.Moments.{begin_of, is_gone}
-use Rattle.qn_model.specs.NodeOutputs.{newest_outs}
+use Rattle.qn_model.specs.NodeOutputs.{newest_outs, with_entry}
 use Rattle.qn_model.specs.Phases.{is_live, phase}
 use Rattle.qn_model.specs.Sectors.{header_bytes}
 use Rattle.qn_model.specs.Steps.{entry_of}
@@ -44,11 +45,11 @@ use Rattle.qn_live.specs.declared.words.Own.{Own}
 use Rattle.qn_live.specs.Choosing.{choice_in, choice_of, is_entry_for, is_late, is_to_leave, looked, looking, own_of, packet_in, ready, told, view_or_tick}
 use Rattle.qn_live.specs.Performing.{disk_answer, disk_call, done, end_in, header_seen, noted, out_call, outs_plan, own_number, waits_after}
 use Rattle.qn_live.specs.Polling.{answered, answered_at, choice_beside, is_device, is_reply_for, poll_due, polled, reply_in}
-use Rattle.qn_live.specs.Running.{RunState, first_state}
+use Rattle.qn_live.specs.Running.{RunState}
 use Rattle.qn_live.specs.Runs.{asked_maker, greets, loop_after, looked_at, taken}
 use Rattle.qn_joined.specs.Stands.{Acting, Ended, Looking, Parting, Polling, Receiving, Saying, Spot, acts_at, after_spot, begun_at, clocked_by, farewells_due, first_stand, left_plan, log_at, opening, parts_at, polled_at, said_at, sends_due, settled_by, taking}
 use Rattle.qn_joined.specs.WorldOf.{IsEnding}
-use Rattle.qn_service.specs.Looks.{LookOf, look_at, look_in}
+use Rattle.qn_service.specs.Looks.{look_at, look_by, look_in}
 use Rattle.qn_service.specs.Loops.{HasLoop}
 use Rattle.qn_service.proofs.Early.{IsEarly, early_rests, entry_early, nothing_early}
 use Rattle.qn_service.proofs.KeptLoops.{asked_keeps, look_keeps, loop_of, told_keeps}
@@ -153,11 +154,11 @@ module _ (s : Settings) (me : ℕ) (t : Timing) where
   -- the loop's time after an entry of a node that was not gone
   loop_then : (past : List Line) (tick loop_ms : ℕ) (entry : What) → GivesTimes t entry → (is_gone (phase s past) ≡ true → ⊥)
       → IsEarly s past ⊎ (loop_ms ≡ t.loop_ms)
-      → IsEarly s (Rattle.qn_model.specs.NodeOutputs.with_entry s me past (record { tick = tick; what = entry })) ⊎ (loop_after entry loop_ms ≡ t.loop_ms)
+      → IsEarly s (with_entry s me past (record { tick = tick; what = entry })) ⊎ (loop_after entry loop_ms ≡ t.loop_ms)
   loop_then past tick loop_ms entry gives goes was = by_times (times_of entry) refl was
     where
       by_times : (found : Option Timing) → times_of entry ≡ found → IsEarly s past ⊎ (loop_ms ≡ t.loop_ms)
-          → IsEarly s (Rattle.qn_model.specs.NodeOutputs.with_entry s me past (record { tick = tick; what = entry })) ⊎ (loop_after entry loop_ms ≡ t.loop_ms)
+          → IsEarly s (with_entry s me past (record { tick = tick; what = entry })) ⊎ (loop_after entry loop_ms ≡ t.loop_ms)
       by_times (Some times) is before =
           inr (ap (λ o. option_map_or (λ (read : Timing). read.loop_ms) o loop_ms) is ∙ ap (λ (read : Timing). read.loop_ms) (gives times is))
       by_times None is (inl (inl gone)) = absurd (goes (ap is_gone gone))
@@ -254,7 +255,7 @@ module _ (s : Settings) (me : ℕ) (t : Timing) where
       seen : times_of (what.Header (header_seen bytes)) ≡ Some t
       seen =
           ap (λ b. times_of (what.Header (header_seen b))) (reads bytes (ap (λ place. call.Read place bytes true) (sym at_head)))
-          ∙ ap (λ o. times_of (what.Header (option_map_or (λ (found : ℕ × Timing). Rattle.qn_model.specs.declared.seen.HeaderSeen.TheVariants.Read found.0 found.1) o Rattle.qn_model.specs.declared.seen.HeaderSeen.TheVariants.NotImage))) back
+          ∙ ap (λ o. times_of (what.Header (option_map_or (λ (found : ℕ × Timing). header.Read found.0 found.1) o header.NotImage))) back
   header_gives back (call.Read sector bytes false) asked reads times gives = absurd (none-some times gives)
   header_gives back (call.Now tick) asked reads times gives = absurd cc
   header_gives back (call.Receive got) asked reads times gives = absurd cc
@@ -357,7 +358,7 @@ module _ (s : Settings) (me : ℕ) (t : Timing) where
   pub look_works : (spot : Spot) (made : Call) → WorksAt s t spot → IfSome (look_at me spot made) (HasLoop t)
   look_works (Looking chosen) made works = by_order (nat_lt (time_of made) (now chosen.1.log))
     where
-      by_order : (back : Bool) → IfSome (if back then None else Rattle.qn_service.specs.Looks.look_by me (time_of made) (answered (time_of made) chosen)) (HasLoop t)
+      by_order : (back : Bool) → IfSome (if back then None else look_by me (time_of made) (answered (time_of made) chosen)) (HasLoop t)
       by_order true = tt
       by_order false =
           look_chosen (time_of made) (own_of (looking (time_of made) (answered (time_of made) chosen))) (answered (time_of made) chosen).0 chosen.1.maker works.0.maker

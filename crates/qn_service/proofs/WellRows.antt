@@ -1,5 +1,5 @@
 -- A joined run in which a node that is alone starts its resource, and goes on running it.
-use Rattle.std.proofs.Common.{◌≡◌, ◌≤◌, ◌<◌, ℕ, suc, zero, Bool, true, false, List, [], ◌∷◌, ◌++◌, ◌+◌, ◌*◌, ◌^◌, ◌==◌, None, if◌then◌else◌, refl, subst, arith}
+use Rattle.std.proofs.Common.{◌<◌, ℕ, suc, zero, Bool, true, false, List, [], ◌∷◌, ◌++◌, ◌+◌, ◌==◌, None, if◌then◌else◌, refl, subst, arith}
 use Rattle.qn_base.specs.declared.calls.Call.TheVariants as call
 use Rattle.qn_base.specs.declared.calls.Received.TheVariants as received
 use Rattle.qn_model.specs.declared.times.Timing.{Timing}
