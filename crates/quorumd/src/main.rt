@@ -77,10 +77,8 @@ fn run(rt: &HostRuntime, said: Outside, words: &[String]) -> u8 {
     );
     if status == USAGE {
         say_what_is_wrong(rt, words);
-    } else if status != WRITE_FAULT
-        && let Some(advice) = Advice::of(words, out.fault())
-    {
-        let _ = eprintln!(rt; "{PROGRAM}: {advice}");
+    } else if status != WRITE_FAULT {
+        say_what_mends(rt, words, out.fault());
     }
     status
 }
@@ -263,6 +261,14 @@ fn say_what_is_wrong(rt: &(impl Eprint + AllocGlobal), words: &[String]) {
     };
     let hint = hint_of(rt.alloc(), &QUORUMD, &QUORUMCTL, &refusal);
     let _ = eprintln!(rt; "{PROGRAM}: {refusal}{hint}");
+}
+
+/// Says on standard error what mends a fault, where that is known; that it cannot be said is no fault.
+#[inline(never)]
+fn say_what_mends<'said>(rt: &impl Eprint, words: &'said [String], fault: &'said str) {
+    if let Some(advice) = Advice::of(words, fault) {
+        let _ = eprintln!(rt; "{PROGRAM}: {advice}");
+    }
 }
 
 /// Says on standard error which commands there are; that it cannot be said is no fault.
