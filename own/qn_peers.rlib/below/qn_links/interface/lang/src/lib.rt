@@ -1,5 +1,0 @@
-pub use networks :: Networks ;
-pub use sections :: Ring ;
-mod links ;
-mod networks ;
-mod sections ;

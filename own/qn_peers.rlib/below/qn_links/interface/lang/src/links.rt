@@ -1,2 +1,0 @@
-use std :: net :: IpAddr ;
-pub type Links = [ Option < IpAddr > ; 32 ] ;

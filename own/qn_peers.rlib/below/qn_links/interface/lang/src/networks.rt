@@ -1,2 +1,0 @@
-use crate :: links :: Links ;
-# [ derive ( Clone , Copy ) ] pub struct Networks { pub first : Links , pub second : Option < Links > , }
