@@ -253,7 +253,7 @@ def main():
     # the order of the options and the files is free
     paths = written([holder(1), node(2), node(3)])
     same(status(paths[0], "--json", *paths[1:])[1].count('"stale":false'), 3, "files before and behind an option")
-    same(sorted(path.name for path in pathlib.Path().iterdir()), ["node-0.json", "node-1.json", "node-2.json"], "nothing is made")
+    same(sorted(path.name for path in pathlib.Path().iterdir()), ["node-%d.json" % number for number in range(len(FIVE))], "nothing is made")
 
 
 main()
