@@ -8,7 +8,7 @@ import time
 
 import etcd
 import live
-from live import Wrong, same, try_all
+from live import Wrong, same, try_all, without_advice
 from nbd import BlockServer
 
 TOP = pathlib.Path(os.environ["TOP"])
@@ -20,7 +20,7 @@ HOST = etcd.servers()[0].host if etcd.is_there() else None
 
 def ran(words, stdin=subprocess.DEVNULL):
     done = subprocess.run([str(word) for word in words], stdin=stdin, capture_output=True, check=False)
-    return done.returncode, done.stdout.decode(), done.stderr.decode()
+    return done.returncode, done.stdout.decode(), without_advice(done.stderr.decode())
 
 
 def quorumd(command, image, *words):
