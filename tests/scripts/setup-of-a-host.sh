@@ -192,7 +192,7 @@ setup 1 'quorumd-setup: node 1 of member.conf is this host: an arbiter is on a h
 setup 1 'quorumd-setup: HERE/etc/quorumd/key is no file: copy the key of a member here, by a way that nobody reads, and say --key FILE' arbiter.conf --arbiter
 head -c 31 /dev/zero > short
 chmod 600 short
-setup 1 'quorumd-setup: short: 31 bytes, a key has 32 to 4096' arbiter.conf --arbiter --key short
+setup 1 'quorumd-setup: short: 31 bytes, a key has 32 to 4096; copy that of another host' arbiter.conf --arbiter --key short
 same "$(written)" "$before"
 printf '#!/bin/sh\necho "192.0.2.1 STREAM"\n' > calls/getent
 device third.example > arbiter.conf
