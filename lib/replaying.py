@@ -13,7 +13,7 @@ class Replay:
         self.events = 0
         self.kept = kept
         self.command = command
-        self.child = subprocess.Popen([program(), command], stdin=subprocess.PIPE, stdout=subprocess.PIPE, bufsize=0)
+        self.child = subprocess.Popen([program(), command], stdin=subprocess.PIPE, stdout=subprocess.PIPE, stderr=subprocess.DEVNULL, bufsize=0)
         self.answers = open(self.child.stdout.fileno(), "rb", closefd=False)
         self.write(head)
 
