@@ -1,6 +1,6 @@
 """The record of a node on three images as that of a node on one: what the three told of an operation is put together by the rules of docs/dev/NODE.md,
 and not by the program."""
-from told import DEADLY, MAILBOXES, mail_of
+from told import DEADLY, MAILBOXES, is_header, mail_of
 
 IMAGE = 1024  # numbers of sectors an image has
 SLOTS = range(1, 65)
@@ -16,18 +16,27 @@ class OnOne:
         self.parts = {}
 
     def call(self, line):
-        """The calls on one image that end with this call on three; before them `image N ok`, or `failed`, says what it came to on which image."""
+        """The calls on one image that end with this call on three; before them `image N ok`, or `failed`, says what it came to on which image, and behind that
+        of what it read there whether that is one."""
         words = line.split(" ")
         if words[0] not in ("read", "write"):
             return [line]
         place, sector = divmod(int(words[1]), IMAGE)
         self.parts[place] = words[2:]
-        came = "image %d %s" % (place + 1, "failed" if words[-1] == "failed" else "ok")
+        came = "image %d %s%s" % (place + 1, "failed" if words[-1] == "failed" else "ok", self.judged(sector, words))
         asked = self.good if words[0] == "read" and sector == self.mailbox else [True] * 3
         if place != max(image for image in range(3) if asked[image]):
             return [came]
         parts, self.parts = self.parts, {}
         return [came, "%s %d %s" % (words[0], sector, self.written(sector, parts) if words[0] == "write" else self.read(sector, parts))]
+
+    def judged(self, sector, words):
+        """Of a header, or the own mailbox, that was read whether it is one."""
+        if words[0] != "read" or words[-1] == "failed" or sector not in (0, self.mailbox):
+            return ""
+        data = bytes.fromhex(words[2])
+        name, is_one = ("header", is_header(data)) if sector == 0 else ("mailbox", mail_of(data) is not None)
+        return " %s %s" % (name, "yes" if is_one else "no")
 
     def written(self, sector, parts):
         """A write is done where it was on two images; the own mailbox is read from then on where it was."""

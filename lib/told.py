@@ -70,6 +70,11 @@ def packet_of(data):
     return kind, sender, to, incarnation, install, (number, members), bool(flags & 1), bool(flags & 2)
 
 
+def is_header(data):
+    """Whether a first sector is the header of an image."""
+    return data[:8] == b"QNSBD001"
+
+
 def mail_of(data):
     """A mailbox as its message and its sender, or None where the bytes are none."""
     code, ident, incarnation = data[4], *struct.unpack(">LQ", data[8:20])
@@ -108,7 +113,8 @@ class Told:
         self.word, self.pulls_since, self.before_tick = SILENT, None, 0  # what this host says of the node, and since when it pulls
         self.hellos, self.seen = {}, set()
         self.late, self.refused = Seldom(), Seldom()
-        self.lost, self.told_lost = [False] * 3, [False] * 3  # of three images, of which the last call failed, and of which that was told
+        # of three images: of which the last call failed, whose header or mailbox is none, and of which it was told that it is lost
+        self.failed, self.none, self.told_lost = [False] * 3, {"header": [False] * 3, "mailbox": [False] * 3}, [False] * 3
         self.before = self.standing()
 
     def say(self, level, event, *words):
@@ -353,7 +359,8 @@ class Told:
 
     def tell_image(self):
         """Of one image a turn, the first of which there is news."""
-        for place, lost in enumerate(self.lost):
+        for place, failed in enumerate(self.failed):
+            lost = failed or any(none[place] for none in self.none.values())
             if lost != self.told_lost[place]:
                 self.told_lost[place] = lost
                 self.say(WARNING if lost else NOTICE, "image-lost" if lost else "image-back", "image=%d" % (place + 1))
@@ -426,7 +433,10 @@ class Told:
         if call[0] == "feed" and not ok:
             self.late.untold += 1
         if call[0] == "image":
-            self.lost[int(call[1]) - 1] = not ok
+            place = int(call[1]) - 1
+            self.failed[place] = call[2] != "ok"
+            if len(call) > 3:
+                self.none[call[3]][place] = call[4] == "no"
         if call[0] in ("read", "write"):
             self.waits_disk = self.answer_of(call)
 
@@ -441,7 +451,7 @@ class Told:
                 self.claim = incarnation
             return self.asked("close" if clean else "claim", self.me, ok)
         if sector == 0:
-            return self.asked("header", None, read_of(call[2], lambda data: data if data[:8] == b"QNSBD001" else None))
+            return self.asked("header", None, read_of(call[2], lambda data: data if is_header(data) else None))
         if rank is not None:
             return self.asked("check" if self.phase == "booting" else "mail", rank, read_of(call[2], mail_of))
         of = (sector - 1) // 2
