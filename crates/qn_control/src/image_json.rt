@@ -71,7 +71,11 @@ fn add_network(json: &mut Text, links: &Links) {
             before = ",";
         }
     }
-    json.add(if links.iter().all(Option::is_none) { "[]" } else { "]" });
+    json.add(if links.iter().all(Option::is_none) {
+        "[]"
+    } else {
+        "]"
+    });
 }
 
 fn add_header(json: &mut Text, version: u16, timing: &Timing) {
