@@ -88,11 +88,11 @@ fn status_of(findings: &[Finding]) -> u8 {
     }
 }
 
-/// Whether a finding is a fault of the image: that a take-over has no bound is a warning, and keeps no node from its start, and so is a short feed
-/// delay, but for one beside which no feed is in time.
+/// Whether a finding is a fault of the image: that a take-over has no bound is a warning, and keeps no node from its start, and so are a time below an
+/// election and a short feed delay, but for one beside which no feed is in time.
 fn is_wrong(finding: &Finding) -> bool {
     match finding {
-        Finding::NoBound { .. } | Finding::Tail { .. } => false,
+        Finding::NoBound { .. } | Finding::BelowElection { .. } | Finding::Tail { .. } => false,
         Finding::ShortFeedDelay { short } => short.allows_none(),
         Finding::Unreadable { .. }
         | Finding::NotImage
