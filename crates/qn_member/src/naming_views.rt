@@ -116,7 +116,8 @@ impl NamingMember {
         ensures exact { self.new ≡ seeing_names tick self.old }
         ensures configured { has_configured self.new.maker.nodes self.new.maker.seen ≡ true }
     {
-        self.member.see(tick);
+        let visible = self.seen_by_name(tick);
+        self.member.see_these(visible);
         if self.member.me.0 < 32 {
             self.hears[usize::from(self.member.me.0)] = self.member.seen;
         }
