@@ -2,7 +2,7 @@
 nothing of itself, it goes by the rules of members.py."""
 from collections import namedtuple
 
-from members import NOBODY, Member, View, name_of, next_number, plain_number
+from members import NOBODY, Member, Said, View, name_of, next_number, plain_number
 
 # What a node says of itself beside its Hello: it votes and never holds; it may not hold now; it asks for the resource; it holds; it holds or sees a
 # node that says so; its weight; and it is able to lead with the votes of the device alone.
@@ -11,6 +11,9 @@ Standing = namedtuple("Standing", "barred unfit pull holds keeps weight leans", 
 SILENT = Standing()
 KNOWS_NAMES = 32  # the flag without which the last two bytes of a Hello mean nothing
 LEANS = 64
+
+# What a Hello counts as with two_node, at a node that does not hold, where its sender never starts and did not name that node.
+NAMES_NOBODY = Said((), None, False)
 
 
 def flags_of(standing):
@@ -61,6 +64,8 @@ class NamingMember(Member):
                 self.unable.add(sender)
             elif sender not in self.deaf:
                 self.unable.discard(sender)
+            if self.enough == 0 and not self.stands.holds and sender in self.deaf & self.unable:
+                self.said[sender] = NAMES_NOBODY
         else:
             self.standings.pop(sender, None)
 
@@ -100,11 +105,6 @@ class NamingMember(Member):
         if self.led_since is None or self.leader != before:
             self.led_since, self.came = tick, set()
         return company
-
-    def visible(self, tick):
-        """With two_node a node that does not hold passes over one that never starts and did not name it."""
-        passed_over = self.deaf & self.unable if self.enough == 0 and not self.stands.holds else set()
-        return tuple(ident for ident in super().visible(tick) if ident not in passed_over)
 
     def own_copy(self):
         """The present view; with the name of nobody where it would let a node start that is barred, or unfit and does not hold."""

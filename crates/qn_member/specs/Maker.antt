@@ -377,11 +377,10 @@ abbrev pub view_under : ℕ → Maker → Mask → ℕ → Option View
 view_under tick m company leader = if leader == m.me then own_view tick m company else followed_view m leader
 
 -- whom a look sees, once it is forgotten whom those follow who followed a node that it sees no more
-abbrev pub seeing_these : Mask → Maker → Maker
-seeing_these visible m = record m { forgotten = forgotten_nodes m visible; seen = visible }
-
 abbrev pub seeing : ℕ → Maker → Maker
-seeing tick m = seeing_these (visible_nodes tick m) m
+seeing tick m =
+    let visible = visible_nodes tick m in
+    record m { forgotten = forgotten_nodes m visible; seen = visible }
 
 -- what a Hello says then
 abbrev pub said_at : ℕ → Maker → Said

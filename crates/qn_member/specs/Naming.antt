@@ -1,6 +1,6 @@
 -- A view maker whose views name who may start: what it knows besides, and whom it follows where each node that it sees knows names.
 -- This project's profile; bars and weights are after Pacemaker's standby and location scores.
-use Rattle.std.specs.Prelude.{ℕ, Bool, true, false, List, Option, None, ◌+◌, ◌%◌, ◌^◌, ◌==◌, ◌&&◌, ◌||◌, not, nat_le, nat_lt, bit_or, if◌then◌else◌, length, replicate, slice_index_or, slice_set}
+use Rattle.std.specs.Prelude.{ℕ, Bool, true, false, List, Option, None, Some, ◌+◌, ◌%◌, ◌^◌, ◌==◌, ◌&&◌, ◌||◌, not, nat_le, nat_lt, bit_or, if◌then◌else◌, length, replicate, slice_index_or, slice_set}
 use Rattle.std.specs.Int.{bit_at}
 use Rattle.std.specs.Option.{option_map_or, option_or}
 use Rattle.qn_base.specs.declared.ids.Mask.{Mask}
@@ -13,7 +13,7 @@ use Rattle.qn_model.specs.Votes.{quorum_of, votes_among}
 use Rattle.qn_candidate.specs.declared.candidate.Facts.{Facts}
 use Rattle.qn_candidate.specs.Candidate.{meets}
 use Rattle.qn_member.specs.declared.lead.Lead.{Lead}
-use Rattle.qn_member.specs.Maker.{Maker, after_announce, after_hello, first_maker, follows_other, has_configured, is_configured, is_visible, least_of, plain, ranks_that, said_in, says_able, says_more}
+use Rattle.qn_member.specs.Maker.{Maker, after_announce, after_hello, first_maker, follows_other, has_configured, is_configured, least_of, plain, ranks_that, said_in, says_able, says_more}
 
 -- What such a view maker knows. By rank: whom a node hears as its last Hello says, or sees, of the node itself; and what it
 -- said of itself beside it.
@@ -154,11 +154,28 @@ never_starts flags = has_bit flags barred_bit || has_bit flags unfit_bit && not 
 abbrev pub is_unable_then : NamingMaker → ℕ → ℕ → Bool
 is_unable_then m from flags = never_starts flags || slice_index_or m.deaf from false && slice_index_or m.unable from false
 
+-- With two_node a Hello counts as one that names all. But where a node that does not hold hears one that never starts and did not
+-- name it, that Hello counts as one that names nobody: no start waits for its sender then.
+abbrev pub is_passed_over : NamingMaker → ℕ → ℕ → Bool
+is_passed_over m from flags =
+    is_own m knows_bit
+    && not (is_own m holds_bit)
+    && m.maker.enough == 0
+    && slice_index_or m.deaf from false
+    && is_unable_then m from flags
+
+abbrev pub names_nobody : Said
+names_nobody = record { hears = record { 0 = 0 }; follows = None; able = false }
+
+abbrev pub said_with : NamingMaker → ℕ → ℕ → List (Option Said)
+said_with m from flags = if is_passed_over m from flags then slice_set m.maker.said from (Some names_nobody) else m.maker.said
+
 -- what a node says of itself counts where it knows names
 abbrev pub after_standing : ℕ → Standing → NamingMaker → NamingMaker
 after_standing from standing m =
     if is_other m from && has_bit standing.flags knows_bit
     then record m {
+      maker = record m.maker { said = said_with m from standing.flags };
       flags = slice_set m.flags from standing.flags;
       weights = slice_set m.weights from standing.weight;
       unable = slice_set m.unable from (is_unable_then m from standing.flags);
@@ -189,24 +206,6 @@ after_named_announce from view m =
       withdrawn = slice_set m.withdrawn from false;
     }
     else record m { maker = after_announce from view m.maker }
-
--- ## Whom a node sees with two_node
-
--- With two_node a Hello counts as one that names all. But a node that does not hold passes over one that never starts and did
--- not name it: no start waits for its answer then.
-abbrev pub is_passed_over : NamingMaker → ℕ → Bool
-is_passed_over m rank =
-    not (is_own m holds_bit)
-    && m.maker.enough == 0
-    && slice_index_or m.deaf rank false
-    && slice_index_or m.unable rank false
-    && not (rank == m.maker.me)
-
-abbrev pub is_seen_by_name : ℕ → NamingMaker → ℕ → Bool
-is_seen_by_name tick m rank = is_visible tick m.maker rank && not (is_passed_over m rank)
-
-abbrev pub seen_by_name : ℕ → NamingMaker → Mask
-seen_by_name tick m = record { 0 = ranks_that (is_seen_by_name tick m) (length m.maker.nodes) }
 
 -- ## Whom a node follows where all know names
 

@@ -17,8 +17,8 @@ use Rattle.qn_candidate.specs.Numbers.{number_of, without_name}
 use Rattle.qn_member.specs.declared.lead.Lead.{Lead}
 use Rattle.qn_member.specs.declared.told.Told.{Told}
 use Rattle.qn_member.specs.Announcing.{is_beat, is_same_said, view_to_announce}
-use Rattle.qn_member.specs.Maker.{Maker, after_tick, company_at, followed, followed_view, is_able, heard_nodes, installed_beside, is_configured, is_first_due, is_in_one, is_present, is_steady, known_nodes, least_of, led_by, members_at, noted_with, ranks_that, seeing_these, view_at}
-use Rattle.qn_member.specs.Naming.{NamingMaker, barred_bit, company_by_name, facts_of, flagged_nodes, flags_of, followed_by_name, has_sure_votes, holds_bit, is_fit_to_lead, is_own, is_withdrawn, knows_all, knows_bit, seen_by_name, unfit_bit}
+use Rattle.qn_member.specs.Maker.{Maker, after_tick, company_at, followed, followed_view, is_able, heard_nodes, installed_beside, is_configured, is_first_due, is_in_one, is_present, is_steady, known_nodes, least_of, led_by, members_at, noted_with, ranks_that, seeing, view_at, visible_nodes}
+use Rattle.qn_member.specs.Naming.{NamingMaker, barred_bit, company_by_name, facts_of, flagged_nodes, flags_of, followed_by_name, has_sure_votes, holds_bit, is_fit_to_lead, is_own, is_withdrawn, knows_all, knows_bit, unfit_bit}
 
 -- ## Who leads
 
@@ -45,8 +45,8 @@ leads_itself m = option_map_or (λ leader. leader == m.maker.me) (led_by m.maker
 abbrev pub seeing_names : ℕ → NamingMaker → NamingMaker
 seeing_names tick m =
     record m {
-      maker = seeing_these (seen_by_name tick m) m.maker;
-      hears = if nat_lt m.maker.me 32 then slice_set m.hears m.maker.me (seen_by_name tick m) else m.hears;
+      maker = seeing tick m.maker;
+      hears = if nat_lt m.maker.me 32 then slice_set m.hears m.maker.me (visible_nodes tick m.maker) else m.hears;
     }
 
 -- what is known at a look that saw these

@@ -18,7 +18,7 @@ impl Member {
         }
     }
 
-    pub(crate) fn is_visible(&self, tick: u64, rank: Rank) -> bool
+    fn is_visible(&self, tick: u64, rank: Rank) -> bool
         requires { rank.0 < 32 }
         ensures { result ≡ is_visible tick self.now rank.0 }
     {

@@ -105,7 +105,7 @@ impl Member {
     ghost use Rattle.std.specs.Prelude.{◌≡◌, ◌<◌, ◌≤◌, ◌↔◌, ℕ, IfSome, IsNone, IsTrue, true, length, nat_le};
     ghost use Rattle.std.specs.Option.{option_map};
     ghost use Rattle.qn_base.specs.Members.{is_member};
-    ghost use Rattle.qn_member.specs.Maker.{seeing, seeing_these, after_tick, first_maker, has_configured, installed, is_configured, least_of, three_loops_after, view_at};
+    ghost use Rattle.qn_member.specs.Maker.{seeing, after_tick, first_maker, has_configured, installed, is_configured, least_of, three_loops_after, view_at};
 
     /// The view maker of the node of that rank, which knows nothing of the others yet. `loop_ms` is the loop's time of its
     /// image, in milliseconds.
@@ -157,15 +157,6 @@ impl Member {
         ensures configured { has_configured self.new.nodes self.new.seen ≡ true }
     {
         let visible = self.visible_nodes(tick);
-        self.see_these(visible);
-    }
-
-    /// The same, of a look that sees these.
-    pub(crate) fn see_these(&mut self, visible: Mask)
-        requires { has_configured self.old.nodes visible ≡ true }
-        ensures exact { self.new ≡ seeing_these visible self.old }
-        ensures configured { has_configured self.new.nodes self.new.seen ≡ true }
-    {
         self.forgotten = self.forgotten_nodes(visible);
         self.seen = visible;
     }

@@ -91,6 +91,13 @@ pub(crate) fn has_bit(flags: u8, bit: u8) -> bool
     flags >> bit & 1 == 1
 }
 
+/// A Hello of a node that hears nobody.
+const NAMES_NOBODY: Said = Said {
+    hears: Mask(0),
+    follows: None,
+    able: false,
+};
+
 /// Whether a node says that it is barred, or unfit and does not hold: it starts under no view.
 fn never_starts(flags: u8) -> bool
     ensures { result ≡ never_starts flags }
@@ -117,7 +124,7 @@ fn own_flags(standing: Standing, holds: bool) -> u8
 
 impl NamingMember {
     ghost use Rattle.std.specs.Prelude.{◌≡◌, ◌<◌, IsTrue};
-    ghost use Rattle.qn_member.specs.Naming.{after_named_announce, after_named_hello, after_named_plain_hello, after_stand, after_standing, first_naming, flags_of, is_other, is_own, is_unable_then};
+    ghost use Rattle.qn_member.specs.Naming.{after_named_announce, after_named_hello, after_named_plain_hello, after_stand, after_standing, first_naming, flags_of, is_other, is_own, is_passed_over, is_unable_then};
 
     /// The view maker of the node of that rank.
     pub fn new(settings: &Settings, me: Rank, loop_ms: u64) -> Self
@@ -186,10 +193,28 @@ impl NamingMember {
         ensures { self.new ≡ after_standing from.0 standing self.old }
     {
         if self.is_other(from) && has_bit(standing.flags, KNOWS) {
-            self.unable[usize::from(from.0)] = self.is_unable_then(from, standing.flags);
+            let passed_over = self.is_passed_over(from, standing.flags);
+            let unable = self.is_unable_then(from, standing.flags);
+            if passed_over {
+                self.member.said[usize::from(from.0)] = Some(NAMES_NOBODY);
+            }
+            self.unable[usize::from(from.0)] = unable;
             self.flags[usize::from(from.0)] = standing.flags;
             self.weights[usize::from(from.0)] = standing.weight;
         }
+    }
+
+    /// Whether a Hello counts as one that names nobody, once its sender says this: with `two_node`, while this node does not hold, that of a node
+    /// which never starts and did not name it.
+    fn is_passed_over(&self, from: Rank, flags: u8) -> bool
+        requires { from.0 < 32 }
+        ensures { result ≡ is_passed_over self.now from.0 flags }
+    {
+        self.is_own(KNOWS)
+            && !self.is_own(HOLDS)
+            && self.member.enough == 0
+            && self.deaf[usize::from(from.0)]
+            && self.is_unable_then(from, flags)
     }
 
     /// Whether a node counts as one that never starts, once its Hello says this.

@@ -8,40 +8,7 @@ impl NamingMember {
     ghost use Rattle.std.specs.Option.{option_map};
     ghost use Rattle.qn_base.specs.Members.{is_member};
     ghost use Rattle.qn_member.specs.Maker.{has_configured};
-    ghost use Rattle.qn_member.specs.Naming.{able_ones, company_by_name, facts_of, flagged_nodes, followed_by_name, has_sure_votes, is_able_node, is_fit_to_lead, is_flagged, is_keeper, is_led_by_name, is_met_holder, is_passed_over, is_seen_by_name, is_sure, is_sure_in, keepers, knows_all, leader_by_name, least_sure, led_by_name, met_holders, seen_by_name, sure_ones};
-
-    /// Whether a node is not seen though it is heard: with `two_node`, while this one does not hold, one that never starts and did not name it.
-    fn is_passed_over(&self, rank: Rank) -> bool
-        requires { rank.0 < 32 }
-        ensures { result ≡ is_passed_over self.now rank.0 }
-    {
-        !self.is_own(HOLDS)
-            && self.member.enough == 0
-            && self.deaf[usize::from(rank.0)]
-            && self.unable[usize::from(rank.0)]
-            && rank != self.member.me
-    }
-
-    fn is_seen_by_name(&self, tick: u64, rank: Rank) -> bool
-        requires { rank.0 < 32 }
-        ensures { result ≡ is_seen_by_name tick self.now rank.0 }
-    {
-        self.member.is_visible(tick, rank) && !self.is_passed_over(rank)
-    }
-
-    /// Whom a look sees.
-    pub(crate) fn seen_by_name(&self, tick: u64) -> Mask
-        ensures exact { result ≡ seen_by_name tick self.now }
-        ensures configured { has_configured self.now.maker.nodes result ≡ true }
-    {
-        let mut found = Mask(0);
-        for rank in 0..self.member.count() {
-            if self.is_seen_by_name(tick, Rank(rank)) {
-                found = found.with(Rank(rank));
-            }
-        }
-        found
-    }
+    ghost use Rattle.qn_member.specs.Naming.{able_ones, company_by_name, facts_of, flagged_nodes, followed_by_name, has_sure_votes, is_able_node, is_fit_to_lead, is_flagged, is_keeper, is_led_by_name, is_met_holder, is_sure, is_sure_in, keepers, knows_all, leader_by_name, least_sure, led_by_name, met_holders, sure_ones};
 
     fn is_flagged(&self, visible: Mask, bit: u8, rank: Rank) -> bool
         requires bit { bit < 8 }

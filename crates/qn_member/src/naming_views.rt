@@ -116,8 +116,7 @@ impl NamingMember {
         ensures exact { self.new ≡ seeing_names tick self.old }
         ensures configured { has_configured self.new.maker.nodes self.new.maker.seen ≡ true }
     {
-        let visible = self.seen_by_name(tick);
-        self.member.see_these(visible);
+        self.member.see(tick);
         if self.member.me.0 < 32 {
             self.hears[usize::from(self.member.me.0)] = self.member.seen;
         }

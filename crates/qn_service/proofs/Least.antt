@@ -1,17 +1,17 @@
 -- Who is the least member of a view that a look gives made that view itself, where not all know names; and a view stays.
-use Rattle.std.proofs.Common.{◌≡◌, ◌⊎◌, inl, inr, ℕ, ◌<◌, ◌≤◌, Bool, true, false, not, ◌&&◌, ◌==◌, Option, None, Some, length, if◌then◌else◌, refl, sym, ◌∙◌, ap, arith, eq-eqb}
-use Rattle.std.specs.Prelude.{nat_le, option_and_then, option_map, slice_index_or}
+use Rattle.std.proofs.Common.{◌≡◌, ◌⊎◌, inl, inr, ℕ, ◌<◌, ◌≤◌, Bool, true, false, ◌&&◌, ◌==◌, Option, None, Some, length, if◌then◌else◌, refl, sym, ◌∙◌, ap, arith, eq-eqb}
+use Rattle.std.specs.Prelude.{nat_le, option_and_then, option_map}
 use Rattle.std.specs.Option.{option_or}
 use Rattle.std.proofs.lemmas.Bool.Decides.{nat_tests}
-use Rattle.std.proofs.lemmas.Bool.{and_from, and_parts, and_right, cases_order, false≢true, or_left}
+use Rattle.std.proofs.lemmas.Bool.{and_parts, cases_order, false≢true, or_left}
 use Rattle.qn_base.specs.declared.ids.Mask.{Mask}
 use Rattle.qn_base.specs.declared.ids.Rank.{Rank}
 use Rattle.qn_base.specs.declared.ids.View.{View}
 use Rattle.qn_base.specs.Members.{is_member}
 use Rattle.qn_model.specs.lemmas.LeastRanks.{least_below}
 use Rattle.qn_member.specs.Following.{LeadsAble, LeadsLeast}
-use Rattle.qn_member.specs.Maker.{Maker, after_tick, company_at, followed, followed_view, installed, installed_beside, is_present, is_visible, leader_at, least_of, led_by, looked, may_install, seeing, view_at}
-use Rattle.qn_member.specs.Naming.{NamingMaker, followed_by_name, holds_bit, is_own, is_seen_by_name, knows_bit}
+use Rattle.qn_member.specs.Maker.{Maker, after_tick, company_at, followed, followed_view, installed, installed_beside, is_present, is_visible, leader_at, least_of, led_by, looked, may_install, view_at, visible_nodes}
+use Rattle.qn_member.specs.Naming.{NamingMaker, followed_by_name, is_own, knows_bit}
 use Rattle.qn_member.specs.NamingViews.{after_by_name, after_found, after_look, after_plain_look, company_now, facts_seen, followed_by_age, is_named_anew, looked_by_name, may_begin, own_by_name, seeing_names, view_by_name, view_found, view_of}
 use Rattle.qn_service.specs.Leading.{MakesView, TakesView, company_then, leader_then, names_then}
 use Rattle.qn_service.proofs.Made.{if_is, leading_keeps, looked_notes, made_or_taken, noted_then}
@@ -29,6 +29,16 @@ plain_leader tick m unnamed =
     (ap (λ b. option_map (λ (rank : Rank). rank.0) (option_map (λ rank. record { 0 = rank }) (if b then followed_by_name seen (facts_seen seen) else followed seen.maker seen.maker.seen))) unnamed
     ∙ rank_again (followed seen.maker seen.maker.seen))
 
+leads_plainly : (tick : ℕ) (m : NamingMaker) (leader : ℕ) → names_then tick m ≡ false → leader_then tick m ≡ Some leader
+    → leader_at (seeing_names tick m).maker ≡ Some leader
+leads_plainly tick m leader unnamed leads = by_own (is_own m knows_bit) refl
+  where
+    by_own : (b : Bool) → is_own m knows_bit ≡ b → leader_at (seeing_names tick m).maker ≡ Some leader
+    by_own true own =
+        sym (ap led_by (looked_notes tick m) ∙ plain_leader tick m unnamed)
+        ∙ (sym (if_is true (is_own m knows_bit) (led_by (looked_by_name tick m).maker) (leader_at (looked tick m.maker)) own) ∙ leads)
+    by_own false own = sym (if_is false (is_own m knows_bit) (led_by (looked_by_name tick m).maker) (leader_at (looked tick m.maker)) own) ∙ leads
+
 -- such a leader is not above the node
 leads_below : (m : Maker) (leader : ℕ) → is_member m.seen m.me ≡ true → LeadsAble m leader ⊎ LeadsLeast m leader → leader ≤ m.me
 leads_below m leader seen (inl able) =
@@ -45,38 +55,14 @@ leads_below m leader seen (inr least) = by_order (cases_order leader m.me)
     by_order (inr (inl under)) = omega arith
     by_order (inr (inr over)) = absurd (false≢true (sym (least.2 m.me over) ∙ seen))
 
--- a node sees itself
-sees_itself : (tick : ℕ) (m : Maker) → is_visible tick m m.me ≡ true
-sees_itself tick m = or_left (m.me == m.me) _ (eq-eqb m.me m.me refl)
-
-names_itself : (tick : ℕ) (m : NamingMaker) → is_seen_by_name tick m m.maker.me ≡ true
-names_itself tick m =
-    let rest = not (is_own m holds_bit) && m.maker.enough == 0 && slice_index_or m.deaf m.maker.me false && slice_index_or m.unable m.maker.me false in
-    and_from _ _ (sees_itself tick m.maker)
-    (ap not (ap (λ b. rest && not b) (eq-eqb m.maker.me m.maker.me refl) ∙ and_right rest false refl))
-
--- who leads is not above a node that does not know that all know names
-leads_under : ((m : Maker) (leader : ℕ) → leader_at m ≡ Some leader → LeadsAble m leader ⊎ LeadsLeast m leader)
-    → (tick : ℕ) (m : NamingMaker) (leader : ℕ) → m.maker.me < length m.maker.nodes → names_then tick m ≡ false → leader_then tick m ≡ Some leader
-    → leader ≤ m.maker.me
-leads_under leads_law tick m leader under unnamed leads = by_own (is_own m knows_bit) refl
-  where
-    by_own : (b : Bool) → is_own m knows_bit ≡ b → leader ≤ m.maker.me
-    by_own true own =
-        leads_below (seeing_names tick m).maker leader (passes_in (is_seen_by_name tick m) (length m.maker.nodes) m.maker.me under (names_itself tick m))
-        (leads_law (seeing_names tick m).maker leader
-        (sym (ap led_by (looked_notes tick m) ∙ plain_leader tick m unnamed)
-        ∙ (sym (if_is true (is_own m knows_bit) (led_by (looked_by_name tick m).maker) (leader_at (looked tick m.maker)) own) ∙ leads)))
-    by_own false own =
-        leads_below (seeing tick m.maker) leader (passes_in (is_visible tick m.maker) (length m.maker.nodes) m.maker.me under (sees_itself tick m.maker))
-        (leads_law (seeing tick m.maker) leader
-        (sym (if_is false (is_own m knows_bit) (led_by (looked_by_name tick m).maker) (leader_at (looked tick m.maker)) own) ∙ leads))
-
 pub least_made : ((m : Maker) (leader : ℕ) → leader_at m ≡ Some leader → LeadsAble m leader ⊎ LeadsLeast m leader)
     → (m : NamingMaker) (tick : ℕ) (view : View) → m.maker.me < length m.maker.nodes → names_then tick m ≡ false → view_found tick m ≡ Some view
     → least_of m.maker view.members ≡ Some m.maker.me → leader_then tick m ≡ Some m.maker.me
 least_made leads_law m tick view under unnamed found least = by_came (made_or_taken tick m view found)
   where
+    seen : is_member (visible_nodes tick m.maker) m.maker.me ≡ true
+    seen = passes_in (is_visible tick m.maker) (length m.maker.nodes) m.maker.me under (or_left (m.maker.me == m.maker.me) _ (eq-eqb m.maker.me m.maker.me refl))
+
     by_order : (leader : ℕ) → leader_then tick m ≡ Some leader → is_member view.members leader ≡ true → leader ≤ m.maker.me
         → (leader ≡ m.maker.me) ⊎ ((leader < m.maker.me) ⊎ (m.maker.me < leader)) → leader_then tick m ≡ Some m.maker.me
     by_order leader leads member below (inl same) = leads ∙ ap Some same
@@ -88,7 +74,7 @@ least_made leads_law m tick view under unnamed found least = by_came (made_or_ta
     by_came (inl makes) = makes.leads
     by_came (inr takes) =
         by_order takes.leader takes.leads takes.has_leader
-        (leads_under leads_law tick m takes.leader under unnamed takes.leads)
+        (leads_below (seeing_names tick m).maker takes.leader seen (leads_law (seeing_names tick m).maker takes.leader (leads_plainly tick m takes.leader unnamed takes.leads)))
         (cases_order takes.leader m.maker.me)
 
 -- ## A view stays

@@ -1,8 +1,8 @@
 -- Whom a view that a look makes leaves out.
 use Rattle.std.proofs.Common.{◌≡◌, ◌⊎◌, inl, inr, ℕ, ◌<◌, ◌≤◌, Bool, true, false, not, ◌&&◌, ◌||◌, ◌==◌, Option, None, Some, length, is_some, if◌then◌else◌, refl, sym, ◌∙◌, ap, subst, arith, eq-eqb}
-use Rattle.std.specs.Prelude.{nat_lt, option_and_then, slice_index_or}
+use Rattle.std.specs.Prelude.{nat_lt, option_and_then}
 use Rattle.std.specs.Option.{option_map_or}
-use Rattle.std.proofs.lemmas.Bool.{and_cases, and_parts, and_right, cases_lt, eqb-false, eqb-true, false≢true, lt-ltb, or_parts, true≢false}
+use Rattle.std.proofs.lemmas.Bool.{and_cases, cases_lt, eqb-false, eqb-true, false≢true, lt-ltb, or_parts, true≢false}
 use Rattle.std.proofs.lemmas.Option.{none-some, same_Some}
 use Rattle.qn_base.specs.declared.ids.Mask.{Mask}
 use Rattle.qn_base.specs.declared.ids.View.{View}
@@ -10,7 +10,7 @@ use Rattle.qn_base.specs.Members.{is_member}
 use Rattle.qn_model.specs.Votes.{are_all_in}
 use Rattle.qn_candidate.specs.Numbers.{next_plain}
 use Rattle.qn_member.specs.Maker.{Maker, company_at, company_under, followed_view, follows_other, is_first_due, is_led, is_present, is_present_member, is_steady, is_visible, known_nodes, leader_at, led_by, led_nodes, looked, may_install, members_at, own_view, view_at, visible_nodes}
-use Rattle.qn_member.specs.Naming.{NamingMaker, company_by_name, flagged_nodes, holds_bit, is_led_by_name, is_own, is_passed_over, is_seen_by_name, knows_all, knows_bit, leader_by_name, led_by_name, seen_by_name}
+use Rattle.qn_member.specs.Naming.{NamingMaker, company_by_name, is_led_by_name, is_own, knows_all, knows_bit, leader_by_name, led_by_name}
 use Rattle.qn_member.specs.NamingViews.{company_now, facts_seen, followed_by_age, is_named_anew, is_sixth_loop, looked_by_name, may_begin, members_by_name, own_by_name, seeing_names, view_by_name, view_found, view_of}
 use Rattle.qn_service.specs.Leading.{LeavesOut, MakesView, company_then, has_hello, known_then, names_then}
 use Rattle.qn_service.proofs.Made.{CameOf, NextBy, if_is, looked_notes, name_way, noted_then, plain_way}
@@ -34,10 +34,6 @@ less_rank k rank other behind = by_order (cases_lt k.me rank) (cases_lt rank k.m
 not_false : (b : Bool) → not b ≡ false → b ≡ true
 not_false true is = refl
 not_false false is = absurd (true≢false is)
-
-not_true : (b : Bool) → not b ≡ true → b ≡ false
-not_true true is = absurd (true≢false (sym is))
-not_true false is = refl
 
 led_apart : (k : Maker) (rank : ℕ) → is_led k k.seen rank ≡ false → ((rank == k.me) ≡ false) × ApartOf k rank
 led_apart k rank out =
@@ -77,51 +73,26 @@ led_or_seen k (Some leader) rank out = by_own (leader == k.me) out
 -- What a node that is out of a company is, by what the view maker knows then: another one, and apart.
 record AwayOf (tick : ℕ) (m : NamingMaker) (k : Maker) (rank : ℕ) : Type 0 where
   other : (rank == m.maker.me) ≡ false
-  apart : (is_visible tick m.maker rank ≡ false)
-      ⊎ ((follows_other k rank ≡ true) ⊎ ((names_then tick m ≡ false) × ((rank < m.maker.me) ⊎ (is_passed_over m rank ≡ true))))
+  apart : (is_visible tick m.maker rank ≡ false) ⊎ ((follows_other k rank ≡ true) ⊎ ((names_then tick m ≡ false) × (rank < m.maker.me)))
 
 unseen_away : (tick : ℕ) (m : NamingMaker) (k : Maker) (rank : ℕ) → rank < length m.maker.nodes → is_member (visible_nodes tick m.maker) rank ≡ false → AwayOf tick m k rank
 unseen_away tick m k rank under unseen =
     let invisible = out_fails (is_visible tick m.maker) (length m.maker.nodes) rank unseen under in
     record { other = (or_parts (rank == m.maker.me) _ invisible).0; apart = inl invisible }
 
--- with two_node not all know names
-passed_unnamed : (tick : ℕ) (m : NamingMaker) (rank : ℕ) → is_passed_over m rank ≡ true → names_then tick m ≡ false
-passed_unnamed tick m rank passed =
-    let four = and_parts (not (is_own m holds_bit) && m.maker.enough == 0 && slice_index_or m.deaf rank false && slice_index_or m.unable rank false) _ passed in
-    let three = and_parts (not (is_own m holds_bit) && m.maker.enough == 0 && slice_index_or m.deaf rank false) _ four.0 in
-    let two = and_parts (not (is_own m holds_bit) && m.maker.enough == 0) _ three.0 in
-    let both = and_parts (not (is_own m holds_bit)) (m.maker.enough == 0) two.0 in
-    let seen = seeing_names tick m in
-    ap (λ b. is_own seen knows_bit && not b && (flagged_nodes seen seen.maker.seen knows_bit).0 == seen.maker.seen.0) both.1
-    ∙ ap (λ b. b && (flagged_nodes seen seen.maker.seen knows_bit).0 == seen.maker.seen.0) (and_right (is_own seen knows_bit) false refl)
-
-passed_other : (m : NamingMaker) (rank : ℕ) → is_passed_over m rank ≡ true → (rank == m.maker.me) ≡ false
-passed_other m rank passed =
-    not_true (rank == m.maker.me)
-    (and_parts (not (is_own m holds_bit) && m.maker.enough == 0 && slice_index_or m.deaf rank false && slice_index_or m.unable rank false) _ passed).1
-
--- one that knows names does not see it
-unseen_named : (tick : ℕ) (m : NamingMaker) (k : Maker) (rank : ℕ) → rank < length m.maker.nodes → is_member (seen_by_name tick m) rank ≡ false → AwayOf tick m k rank
-unseen_named tick m k rank under unseen =
-    by_way (and_cases (is_visible tick m.maker rank) (not (is_passed_over m rank)) (out_fails (is_seen_by_name tick m) (length m.maker.nodes) rank unseen under))
-  where
-    by_way : (is_visible tick m.maker rank ≡ false) ⊎ (not (is_passed_over m rank) ≡ false) → AwayOf tick m k rank
-    by_way (inl invisible) = record { other = (or_parts (rank == m.maker.me) _ invisible).0; apart = inl invisible }
-    by_way (inr is) =
-        let passed = not_false (is_passed_over m rank) is in
-        record { other = passed_other m rank passed; apart = inr (inr (passed_unnamed tick m rank passed, inr passed)) }
-
 -- of a view maker that does not know that all know names
 plain_away : (tick : ℕ) (m : NamingMaker) (k : Maker) (leader : Option ℕ) (rank : ℕ) → rank < length m.maker.nodes
-    → (is_member k.seen rank ≡ false → AwayOf tick m k rank) → k.me ≡ m.maker.me → k.nodes ≡ m.maker.nodes → names_then tick m ≡ false
+    → k.seen ≡ visible_nodes tick m.maker → k.me ≡ m.maker.me → k.nodes ≡ m.maker.nodes → names_then tick m ≡ false
     → is_member (option_map_or (company_under k k.seen) leader k.seen) rank ≡ false → AwayOf tick m k rank
-plain_away tick m k leader rank under unseen own nodes unnamed out = by_way (led_or_seen k leader rank out)
+plain_away tick m k leader rank under sees own nodes unnamed out = by_way (led_or_seen k leader rank out)
   where
+    unseen : is_member k.seen rank ≡ false → AwayOf tick m k rank
+    unseen is = unseen_away tick m k rank under (subst (λ (set : Mask). is_member set rank ≡ false) sees is)
+
     by_apart : (rank == k.me) ≡ false → ApartOf k rank → AwayOf tick m k rank
     by_apart other (inl is) = unseen is
     by_apart other (inr (inl follows)) = record { other = subst (λ n. (rank == n) ≡ false) own other; apart = inr (inl follows) }
-    by_apart other (inr (inr less)) = record { other = subst (λ n. (rank == n) ≡ false) own other; apart = inr (inr (unnamed, inl (subst (λ n. rank < n) own less))) }
+    by_apart other (inr (inr less)) = record { other = subst (λ n. (rank == n) ≡ false) own other; apart = inr (inr (unnamed, subst (λ n. rank < n) own less)) }
 
     by_way : (is_member k.seen rank ≡ false) ⊎ (is_member (led_nodes k k.seen) rank ≡ false) → AwayOf tick m k rank
     by_way (inl is) = unseen is
@@ -138,17 +109,17 @@ name_away tick m rank under out = by_names (knows_all (seeing_names tick m) (see
     seen = seeing_names tick m
 
     by_led : ((rank == m.maker.me) ≡ false) × ((is_member seen.maker.seen rank ≡ false) ⊎ (follows_other seen.maker rank ≡ true)) → AwayOf tick m (noted_then tick m) rank
-    by_led (other, inl is) = unseen_named tick m (noted_then tick m) rank under is
+    by_led (other, inl is) = unseen_away tick m (noted_then tick m) rank under is
     by_led (other, inr follows) = record { other = other; apart = inr (inl follows) }
 
     by_leader : (b : Bool) → is_member (if b then led_by_name seen else seen.maker.seen) rank ≡ false → AwayOf tick m (noted_then tick m) rank
     by_leader true is = by_led (name_apart seen rank (out_fails (is_led_by_name seen) (length m.maker.nodes) rank is under))
-    by_leader false is = unseen_named tick m (noted_then tick m) rank under is
+    by_leader false is = unseen_away tick m (noted_then tick m) rank under is
 
     by_names : (b : Bool) → names_then tick m ≡ b → is_member (if b then company_by_name seen (facts_seen seen) else company_at seen.maker) rank ≡ false
         → AwayOf tick m (noted_then tick m) rank
     by_names true named is = by_leader (option_map_or (λ leader. leader == m.maker.me) (leader_by_name seen (facts_seen seen)) false) is
-    by_names false unnamed is = plain_away tick m (noted_then tick m) (leader_at seen.maker) rank under (unseen_named tick m (noted_then tick m) rank under) refl refl unnamed is
+    by_names false unnamed is = plain_away tick m (noted_then tick m) (leader_at seen.maker) rank under refl refl refl unnamed is
 
 -- ## Who is out of a view
 
@@ -323,7 +294,7 @@ leaves_plain tick m view rank under out unnamed leads gives = by_came way.who wa
     by_out : OutOf tick k (company_at k) rank → may_install tick k (company_at k) ≡ true → LeavesBy tick m k (company_at k) rank
     by_out there due =
         record {
-          away = plain_away tick m k (leader_at k) rank under (unseen_away tick m k rank under) refl refl unnamed there.away;
+          away = plain_away tick m k (leader_at k) rank under refl refl refl unnamed there.away;
           out = there;
           first = λ none. first_due_plain (is_some k.view) (are_all_in k.nodes (company_at k)) (is_first_due tick k (company_at k)) (ap is_some none) due
               (not_all k (company_at k) rank under there.away);

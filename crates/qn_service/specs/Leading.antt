@@ -5,7 +5,7 @@ use Rattle.qn_base.specs.declared.ids.Mask.{Mask}
 use Rattle.qn_base.specs.declared.ids.View.{View}
 use Rattle.qn_base.specs.Members.{is_member}
 use Rattle.qn_member.specs.Maker.{Maker, company_at, follows_other, is_first_due, is_overdue, is_present_member, is_visible, leader_at, led_by, looked, of_rank, three_loops_after}
-use Rattle.qn_member.specs.Naming.{NamingMaker, is_own, is_passed_over, knows_all, knows_bit}
+use Rattle.qn_member.specs.Naming.{NamingMaker, is_own, knows_all, knows_bit}
 use Rattle.qn_member.specs.NamingViews.{company_now, looked_by_name, seeing_names, view_found}
 
 -- what a view maker knows once it looked, before its view
@@ -42,13 +42,12 @@ abbrev pub has_hello : ℕ → Maker → ℕ → Bool
 has_hello tick m rank = option_map_or (λ heard. nat_le tick (three_loops_after m heard)) (of_rank m.hellos rank) false
 
 -- A node is not in the company of a leader: it is not visible, as no Hello of it came for three loops, or its last one does not
--- name the leader; or its last Hello says that it follows another node; or, where not all know names, its rank is less, or, with
--- two_node, its last Hello does not name the leader and it never starts.
+-- name the leader; or its last Hello says that it follows another node; or, where not all know names, its rank is less.
 abbrev pub IsApart : ℕ → NamingMaker → ℕ → Type 0
 IsApart tick m rank =
     (is_visible tick m.maker rank ≡ false)
     ⊎ ((follows_other (known_then tick m) rank ≡ true)
-    ⊎ ((names_then tick m ≡ false) × ((rank < m.maker.me) ⊎ (is_passed_over m rank ≡ true))))
+    ⊎ ((names_then tick m ≡ false) × (rank < m.maker.me)))
 
 -- What holds of a node that a view leaves out, of the look that made it. It is another one, and not in company. Where it was a
 -- member of the view before, and a Hello of it came within three loops, the looks have found it out of company for three loops.
