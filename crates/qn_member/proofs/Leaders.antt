@@ -15,6 +15,7 @@ use Rattle.qn_member.proofs.Ranks.{member_of-ranks_that}
 use Rattle.qn_member.proofs.Silent.{maker_leading}
 
 least_sure_within : (m : NamingMaker) (nodes : Mask) (found : ℕ) → least_sure m nodes ≡ Some found → found < length m.maker.nodes
+unfolding least_sure
 least_sure_within m nodes found is =
     found_within _ _ found (length m.maker.nodes)
     (λ n sure. let within = least_bound (length m.maker.nodes) 0 (is_member (sure_ones m nodes)) n sure in omega arith)

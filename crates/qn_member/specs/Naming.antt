@@ -252,7 +252,7 @@ abbrev pub sure_ones : NamingMaker → Mask → Mask
 sure_ones m nodes = record { 0 = ranks_that (is_sure_in m nodes) (length m.maker.nodes) }
 
 -- the least of these that is sure, else the least of them
-abbrev pub least_sure : NamingMaker → Mask → Option ℕ
+unfoldable pub least_sure : NamingMaker → Mask → Option ℕ
 least_sure m nodes = option_or (least_of m.maker (sure_ones m nodes)) (least_of m.maker nodes)
 
 -- a node follows the least able node that keeps, where there is none the least able one; of each of these a sure one first

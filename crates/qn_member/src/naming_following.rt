@@ -174,6 +174,7 @@ impl NamingMember {
     }
 
     /// The least of these nodes that is sure, else the least of them.
+    #[tactic(auto, unfolding(crate::specs::Naming::least_sure))]
     fn least_sure(&self, nodes: Mask) -> Option<Rank>
         ensures exact { option_map (λ rank. rank.0) result ≡ least_sure self.now nodes }
         ensures below { IfSome result (λ rank. rank.0 < 32) }
