@@ -222,8 +222,7 @@ impl NamingMember {
         requires { from.0 < 32 }
         ensures { result ≡ is_unable_then self.now from.0 flags }
     {
-        never_starts(flags)
-            || self.deaf[usize::from(from.0)] && self.unable[usize::from(from.0)]
+        never_starts(flags) || self.deaf[usize::from(from.0)] && self.unable[usize::from(from.0)]
     }
 
     /// What the node says of itself from now on: whether it is barred, unfit, or pulls (bits 0 to 2), how much it is preferred, and
