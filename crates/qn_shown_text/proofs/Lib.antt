@@ -1,0 +1,3 @@
+mod Printing
+mod StatusTexts
+mod Wholeness
