@@ -1,3 +1,4 @@
 mod Printing
 mod StatusTexts
 mod Wholeness
+mod Writing

@@ -12,7 +12,6 @@ use qn_names::phase_name;
 use qn_shown::{Arbiter, Candidate, Group, Heard, HostStanding, Peer, Shown, ShownView, Told};
 
 /// What a node shows.
-#[tactic(auto, using(crate::proofs::Printing::object_is))]
 pub(crate) fn write_shown(json: &mut JsonText, shown: &Shown)
     ensures { json.new ≡ with_json json.old (shown_json shown.now) }
 {
@@ -83,15 +82,18 @@ fn write_tick_to_why(json: &mut JsonText, shown: &Shown)
 }
 
 /// What was heard of the arbiter, where the node polls one.
-#[tactic(auto, using(crate::proofs::Printing::object_is), unfolding(crate::specs::JsonTexts::with_entry))]
+#[tactic(auto, unfolding(crate::specs::JsonTexts::with_entry))]
 fn write_arbiter(json: &mut JsonText, arbiter: &Option<Arbiter>)
     ensures { json.new ≡ with_entry json.old (codes "arbiter", option_map arbiter_json arbiter.now) }
 {
-    if let Some(arbiter) = arbiter {
-        json.key(b"arbiter");
-        json.begin_object();
-        write_arbiter_entries(json, arbiter);
-        json.end_object();
+    match arbiter {
+        Some(arbiter) => {
+            json.key(b"arbiter");
+            json.begin_object();
+            write_arbiter_entries(json, arbiter);
+            json.end_object();
+        }
+        None => {}
     }
 }
 
@@ -138,7 +140,7 @@ fn write_sender(json: &mut JsonText, by: Option<NodeId>)
 }
 
 /// The other nodes.
-#[tactic(auto, using(crate::proofs::Printing::array_is), unfolding(crate::specs::JsonTexts::with_entry))]
+#[tactic(auto, unfolding(crate::specs::JsonTexts::with_entry))]
 fn write_peers(json: &mut JsonText, peers: &ArrayVec<Peer, 32>)
     ensures { json.new
         ≡ with_entry json.old (codes "peers", Some (array (items_of peer_json peers.now.items))) }
@@ -158,7 +160,6 @@ fn write_each_peer(json: &mut JsonText, peers: &[Peer])
     }
 }
 
-#[tactic(auto, using(crate::proofs::Printing::object_is))]
 fn write_peer(json: &mut JsonText, peer: &Peer)
     ensures { json.new ≡ with_json json.old (peer_json peer.now) }
 {
@@ -179,7 +180,7 @@ fn write_peer_entries(json: &mut JsonText, peer: &Peer)
 }
 
 /// What a node told last.
-#[tactic(auto, using(crate::proofs::Printing::object_is), unfolding(crate::specs::JsonTexts::with_entry))]
+#[tactic(auto, unfolding(crate::specs::JsonTexts::with_entry))]
 fn write_heard(json: &mut JsonText, heard: Heard)
     ensures { json.new ≡ with_entry json.old (codes "told", heard_json heard) }
 {
@@ -208,15 +209,18 @@ fn write_told_entries(json: &mut JsonText, told: Told, tick: u64)
 }
 
 /// What the host says of its node, where it says anything.
-#[tactic(auto, using(crate::proofs::Printing::object_is), unfolding(crate::specs::JsonTexts::with_entry))]
+#[tactic(auto, unfolding(crate::specs::JsonTexts::with_entry))]
 fn write_standing(json: &mut JsonText, standing: Option<HostStanding>)
     ensures { json.new ≡ with_entry json.old (codes "standing", option_map standing_json standing) }
 {
-    if let Some(said) = standing {
-        json.key(b"standing");
-        json.begin_object();
-        write_standing_entries(json, said);
-        json.end_object();
+    match standing {
+        Some(said) => {
+            json.key(b"standing");
+            json.begin_object();
+            write_standing_entries(json, said);
+            json.end_object();
+        }
+        None => {}
     }
 }
 
@@ -257,7 +261,7 @@ fn time_text(ms: u64) -> ArrayVec<u8, 24>
 }
 
 /// The view, null before there was one.
-#[tactic(auto, using(crate::proofs::Printing::object_is), unfolding(crate::specs::JsonTexts::with_entry))]
+#[tactic(auto, unfolding(crate::specs::JsonTexts::with_entry))]
 fn write_view(json: &mut JsonText, view: &Option<ShownView>)
     ensures { json.new ≡ with_entry json.old (codes "view", Some (json_or_null view_json view.now)) }
 {
@@ -294,7 +298,7 @@ fn write_candidate(json: &mut JsonText, candidate: Candidate)
 }
 
 /// The ids of the members of a view.
-#[tactic(auto, using(crate::proofs::Printing::array_is), unfolding(crate::specs::JsonTexts::with_entry))]
+#[tactic(auto, unfolding(crate::specs::JsonTexts::with_entry))]
 fn write_members(json: &mut JsonText, members: &ArrayVec<NodeId, 32>)
     ensures { json.new
         ≡ with_entry json.old (codes "members", Some (array (items_of id_json members.now.items))) }
