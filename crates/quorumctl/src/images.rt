@@ -1,4 +1,5 @@
 //! The commands on an image, wherever it lies. They open it for reading, and make nothing.
+use crate::election::warn_of_election;
 use crate::input::read_input;
 use crate::open_image::OpenImage;
 use crate::texts::say_fault;
@@ -54,6 +55,9 @@ fn check_by<R: Files<File = File> + Net<Stream = TcpStream> + Clock + Print + Ep
     let mut image = OpenImage::open(rt, path)?;
     let seen = look_at_image(rt.alloc(), &mut image, settings)?;
     say(rt, check_text(rt.alloc(), &seen, is_json)?.as_str())?;
+    if let Some((_, _, timing)) = &seen.header {
+        warn_of_election(rt, path, timing);
+    }
     let status = status_of(seen.findings.as_slice());
     if status == WRONG {
         let _ = eprintln!(rt;

@@ -5,6 +5,7 @@
 
 mod asking;
 mod clocks;
+mod election;
 mod group;
 mod images;
 mod input;
