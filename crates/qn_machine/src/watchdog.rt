@@ -15,6 +15,9 @@ pub(crate) struct Watchdog {
 }
 
 impl Watchdog {
+    ghost use Rattle.std.specs.Prelude.{◌+◌, ◌<◌, ◌≤◌, IsSomeAnd, OnOk};
+    ghost use Rattle.qn_exchange.specs.Feeds.{feed_limit};
+
     /// Opens the watchdog of that path, and makes a file where there is none and that is wanted.
     pub(crate) fn open<R: Files<File = File>>(
         rt: &R,
@@ -37,7 +40,10 @@ impl Watchdog {
         last_tick: Option<u64>,
         tick: u64,
         feed_delay: u64,
-    ) -> io::Result<()> {
+    ) -> io::Result<()>
+        ensures { OnOk result (IsSomeAnd last_tick
+            (λ last. (last ≤ tick) × (tick < last + feed_limit feed_delay))) }
+    {
         feed_once(last_tick, tick, feed_delay, &mut &self.opened.file)
     }
 
