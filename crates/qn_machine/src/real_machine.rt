@@ -204,7 +204,12 @@ impl<
         reported(&errors, resource.path(), done)
     }
 
-    fn feed(&mut self, last: Option<u64>, tick: Option<u64>, feed_delay: u64) -> Result<(), Failed> {
+    fn feed(
+        &mut self,
+        last: Option<u64>,
+        tick: Option<u64>,
+        feed_delay: u64,
+    ) -> Result<(), Failed> {
         let Some(tick) = tick else {
             return Err(Failed);
         };
@@ -231,10 +236,21 @@ impl<
 
     fn open_images(&mut self, opening: &Opening<'_>) -> Result<(), Failed> {
         let errors = self.lines.over(&self.rt);
-        reported(&errors, opening.image, check_reach(&self.edge, opening.image))?;
+        reported(
+            &errors,
+            opening.image,
+            check_reach(&self.edge, opening.image),
+        )?;
         let opener = Opener::Node(opening.rank);
         let absent = self.edge.absent();
-        self.disk = Disk::open(&self.rt, &errors, opening.images, opening.image, opener, absent)?;
+        self.disk = Disk::open(
+            &self.rt,
+            &errors,
+            opening.images,
+            opening.image,
+            opener,
+            absent,
+        )?;
         Ok(())
     }
 

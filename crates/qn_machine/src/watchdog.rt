@@ -35,12 +35,7 @@ impl Watchdog {
 
     /// Feeds it, where that is in time at that tick after the last answer of `now`. The byte stands after those before it: a device and
     /// a pipe take no write at a place of a file.
-    pub(crate) fn feed(
-        &self,
-        last_tick: Option<u64>,
-        tick: u64,
-        feed_delay: u64,
-    ) -> io::Result<()>
+    pub(crate) fn feed(&self, last_tick: Option<u64>, tick: u64, feed_delay: u64) -> io::Result<()>
         ensures { OnOk result (IsSomeAnd last_tick
             (λ last. (last ≤ tick) × (tick < last + feed_limit feed_delay))) }
     {
