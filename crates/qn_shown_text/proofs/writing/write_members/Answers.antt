@@ -2,7 +2,7 @@ use Rattle.std.proofs.Common.{codes, ap, ◌∙◌}
 use Rattle.qn_shown.specs.Spelling.{id_json}
 use Rattle.qn_shown_text.specs.declared.json_text.JsonText.{JsonText}
 use Rattle.qn_shown_text.specs.JsonTexts.{with_items}
-use Rattle.qn_shown_text.proofs.Writing.{array_entry, array_value}
+use Rattle.qn_shown_text.proofs.EntryTexts.{array_entry, array_value}
 use Rattle.qn_shown_text.proofs.writing.write_members.Goals as goal
 
 pub returns : goal.returns

@@ -1,5 +1,5 @@
 use Rattle.qn_shown.specs.Spelling.{peer_entries}
-use Rattle.qn_shown_text.proofs.Writing.{object_value}
+use Rattle.qn_shown_text.proofs.EntryTexts.{object_value}
 use Rattle.qn_shown_text.proofs.writing.write_peer.Goals as goal
 
 pub returns : goal.returns

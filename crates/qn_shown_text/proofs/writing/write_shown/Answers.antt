@@ -2,7 +2,7 @@ use Rattle.std.proofs.Common.{ap, take, drop, ◌∙◌}
 use Rattle.qn_shown.specs.Spelling.{shown_entries}
 use Rattle.qn_shown_text.specs.declared.json_text.JsonText.{JsonText}
 use Rattle.qn_shown_text.specs.JsonTexts.{with_entries}
-use Rattle.qn_shown_text.proofs.Writing.{object_value}
+use Rattle.qn_shown_text.proofs.EntryTexts.{object_value}
 use Rattle.qn_shown_text.proofs.writing.write_shown.Goals as goal
 
 pub returns : goal.returns

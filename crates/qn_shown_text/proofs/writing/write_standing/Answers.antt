@@ -1,6 +1,6 @@
 use Rattle.std.proofs.Common.{codes}
 use Rattle.qn_shown.specs.Spelling.{standing_entries}
-use Rattle.qn_shown_text.proofs.Writing.{object_entry, object_value}
+use Rattle.qn_shown_text.proofs.EntryTexts.{object_entry, object_value}
 use Rattle.qn_shown_text.proofs.writing.write_standing.Goals as goal
 
 pub returns-in-Some : goal.returns-in-Some
