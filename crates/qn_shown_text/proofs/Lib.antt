@@ -1,4 +1,4 @@
 mod Printing
 mod StatusTexts
 mod Wholeness
-mod Writing
+mod EntryTexts
