@@ -49,12 +49,12 @@ whole text (byte ∷ bytes) is =
 
 pub has_no_room : (text : FixedText) (bytes : List ℕ) → text.is_cut ≡ false → (with_text text bytes).is_cut ≡ true → 14336 < length text.bytes.items + length bytes
 unfolding with_text with_byte
-has_no_room text [] no is = cc
-has_no_room text (byte ∷ bytes) no is =
-    of_room (nat_lt (length text.bytes.items) 14336) refl is (λ cut. has_no_room (longer text byte) bytes no cut)
+has_no_room text [] uncut is = cc
+has_no_room text (byte ∷ bytes) uncut is =
+    of_room (nat_lt (length text.bytes.items) 14336) refl is (λ ends. has_no_room (longer text byte) bytes uncut ends)
   where
     of_room : (room : Bool) → nat_lt (length text.bytes.items) 14336 ≡ room → (with_text (if room then longer text byte else cut text) bytes).is_cut ≡ true
         → ((with_text (longer text byte) bytes).is_cut ≡ true → 14336 < length (text.bytes.items ++ byte ∷ []) + length bytes)
         → 14336 < length text.bytes.items + length (byte ∷ bytes)
-    of_room true is cut rest = let more = rest cut in grind (arith, common_steps, more)
-    of_room false is cut rest = grind (arith, common_steps)
+    of_room true is ends rest = let more = rest ends in grind (arith, common_steps, more)
+    of_room false is ends rest = grind (arith, common_steps)
