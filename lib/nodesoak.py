@@ -37,8 +37,13 @@ def nodes_of(kind, nodes):
     return 3 if kind == "device" else 4 if kind in LINKED and nodes == 2 or kind == "arbiter" and nodes == 5 else nodes
 
 
+def delay_of(kind, delay):
+    """The fence delay of each node in a run of a kind: beside an arbiter a long one, so that nodes of a cut are not reset before the arbiter went wrong."""
+    return 15000 if kind == "arbiter" and delay else delay
+
+
 # The runs of a seed: of every kind, and the losses of an image on three alone.
-RUNS = [Run(0, nodes_of(kind, nodes), SECONDS, kind, delay, images)
+RUNS = [Run(0, nodes_of(kind, nodes), SECONDS, kind, delay_of(kind, delay), images)
         for kind, nodes, delay, images in itertools.product(KINDS, NODES, DELAYS, IMAGES) if kind != "images" or images == 3]
 
 
