@@ -32,13 +32,14 @@ sql() {
     timeout 3 ip netns exec "$tag" chroot "$base" /usr/lib/postgresql/15/bin/psql -h 192.0.2.100 -U postgres -qAtc "$1" 2> /dev/null
 }
 
-# write_rows: writes the numbers from 1 on, one commit each, and keeps those that were acknowledged, with the time of that
+# write_rows: writes the numbers from 1 on, one commit each, some ten a second, and keeps those that were acknowledged, with the time of that
 write_rows() {
     local number=0
     : > "$room/acknowledged"
     while [ ! -e "$room/enough" ]; do
         number=$((number + 1))
         ! sql "insert into rows values ($number)" || echo "$number $(date +%s%3N)" >> "$room/acknowledged"
+        sleep 0.05
     done
 }
 

@@ -1,5 +1,5 @@
 # The scenes. Each is a function that fails where something else came than should. Sourced by `containers`.
-all_scenes='clean_stop exit_message off_message reboot_of_holder poweroff_of_holder kill_node looks hang_node cable_cut deaf_holder no_image other_image slow_stop stuck_stop
+all_scenes='clean_stop exit_message off_message reboot_of_holder poweroff_of_holder kill_node looks hang_node cable_cut deaf_holder no_image other_image slow_stop reset_in_leave stuck_stop
 by_hand supervisor_dies supervisor_hangs reexecuted reloaded slow_start quorum_back quorum_lost all_off all_rebooted late_disk late_network isolated run_full journal_hangs moves stop_while_starting edited start_mode resource_dies start_fails maintenance planned_handover third_handover turns_used renewed three_images confined
 postgres pgsql system_upgraded database_upgraded upgrade purge pages setup setup_by_names page_device page_servers page_etcd acceptance acceptance_servers acceptance_red arbiter arbiter_by_name arbiter_removed
 moves_by_name standby unfit all_standby witness two_node device device_cut last_man named one_network both_networks network_added late_second_network'
@@ -196,6 +196,21 @@ scene_slow_stop() {
     on 1 systemctl stop quorumd@1.service || return 1
     until_true 20 another_owns 1 || return 1
     not_reset 1
+}
+
+# A reset that comes while a node leaves is not passed over: the node dies of it, with the database that it stops.
+scene_reset_in_leave() {
+    FIRMWARE=20 begun || return 1
+    slowly 1
+    on 1 systemctl stop --no-block quorumd@1.service
+    until_true 5 said 1 'database: stop' -u quorumd-resource.service || return 1
+    fault 'host 2 leaves a reset for host 1, which leaves'
+    on 2 quorumd message --image /srv/cluster/disk --id 1 --kind reset || return 1
+    until_true 40 another_owns 1 || return 1
+    until_true 60 unit_is 1 active || return 1
+    said 1 'fault SelfReset reset' -b -1 || return 1
+    sleep 5
+    another_owns 1 && [ "$(resets 1)" = 1 ]
 }
 
 # A resource that does not stop is ended with its host.

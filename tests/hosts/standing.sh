@@ -35,13 +35,19 @@ moved_around() {
     done
 }
 
+# handed_over: how long each hand-over took, by what the supervisors said of it
+handed_over() {
+    local n loop=${TIMES#*,*,}
+    for n in 1 2 3; do on "$n" journalctl -o short-unix -u quorumd-resource; done | "$here/handovers" --loop "${loop%%,*}" --slow "$slow"
+}
+
 none_reset() { not_reset 1 && not_reset 2 && not_reset 3; }
 
 # An operator moves the resources by name, three times or as often as QUORUMD_TEST_MOVES says: nobody is reset, and no row is lost.
 scene_moves_by_name() {
     database_written || return 1
     fault 'the resources are moved by name, again and again'
-    moved_around "${QUORUMD_TEST_MOVES:-3}" 2 3 1 && none_reset && judge_rows
+    moved_around "${QUORUMD_TEST_MOVES:-3}" 2 3 1 && none_reset && judge_rows && handed_over
 }
 
 # kill_node_of N: the node of host N is killed, and another host owns

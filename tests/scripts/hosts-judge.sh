@@ -1,5 +1,5 @@
 # tests/hosts/judge: each resource signs for itself, and two hosts with any of them at once are two owners; a reset ends a holding; what a scene has to
-# keep to; a host at which nobody looked is not judged. tests/liars refuses words that are none.
+# keep to; a host at which nobody looked is not judged. tests/hosts/handovers: how long each part of a hand-over took. tests/liars refuses words that are none.
 . "$TOP/tests/expect.sh"
 
 # judged STATUS 'SIGNS' 'EVENTS' 'LINE..' [WORD..]: what the judge makes of these files
@@ -58,6 +58,33 @@ scene kill_node 1 - 14.2 'TWO OWNERS: host1 until 40.00, host2 from 24.20|OUT OF
 judged 77 "$(every host1 0 11 store)$(every host2 0 5 -)$(every host2 10 30 -)$(every host2 30.2 40 store)" '10.000 scene fault x\n11.100 host1 reset\n' \
     '0.00 host1 has its resources until 11.00|30.20 host2 has its resources until 40.00|NOT JUDGED: host2 was not looked at for 5.0 s' \
     --scene kill_node --times 5000,10000,1000,2000,1000
+
+# handed STATUS 'LINE..' WORDS..: what is said of the hand-overs in standard input
+handed() {
+    local status=0
+    "$TOP/tests/hosts/handovers" --loop 1000 "${@:3}" > said || status=$?
+    same "$status" "$1"
+    same "$(paste -sd '|' said)" "$2"
+}
+
+# lines HOST TIME:TEXT..: what the supervisor of that host says
+lines() {
+    local line
+    for line in "${@:2}"; do printf '%s %s quorumd-resource[21]: %s\n' "${line%%:*}" "$1" "${line#*:}"; done
+}
+
+# moved TIME: host 1 stops its group from 10 to 11.5, and host 2 starts it at that time
+moved() {
+    lines host2 '1.0:resources: down' "$1:address: start" '13.9:database: start' '14.9:resources: runs'
+    lines host1 '2.0:address: start' '4.0:resources: runs' '10.0:database: stop' '10.5:database: stop says ok after 0.4 s' '11.0:address: stop' '11.5:resources: down'
+}
+
+moved 13.0 | handed 0 'hand-overs: 1, from the first stop until all run: 4.9 s (4.9 to 4.9)|the stop: 1.5 s (1.5 to 1.5)|the nodes: 1.5 s (1.5 to 1.5)|the start: 1.9 s (1.9 to 1.9)'
+moved 13.8 | handed 1 'hand-overs: 1, from the first stop until all run: 4.9 s (4.9 to 4.9)|the stop: 1.5 s (1.5 to 1.5)|the nodes: 2.3 s (2.3 to 2.3)|the start: 1.1 s (1.1 to 1.1)|host1 to host2: 2.30 s from down to the start, and 2.20 is the most'
+moved 13.8 | handed 0 'hand-overs: 1, from the first stop until all run: 4.9 s (4.9 to 4.9)|the stop: 1.5 s (1.5 to 1.5)|the nodes: 2.3 s (2.3 to 2.3)|the start: 1.1 s (1.1 to 1.1)' --slow 1.5
+# a group that is started again where it was
+lines host1 '2.0:resources: runs' '10.0:database: stop' '10.5:database: start' '11.0:resources: runs' | handed 1 'no hand-over'
+lines host1 '10.0:database: stop' '10.4:resources: down' '10.5:database: start' '11.0:resources: runs' | handed 1 'no hand-over'
 
 # each liar names a scene of its lab that has bounds, but for the acceptance, which judges by its own
 for lab in machines hosts; do

@@ -1,0 +1,4 @@
+mod Printing
+mod StatusTexts
+mod Wholeness
+mod Writing
