@@ -78,6 +78,12 @@ impl<
         u64::try_from(time.as_millis()).ok()
     }
 
+    /// Fails where the system would end a program that writes past a limit.
+    fn check_file_size(&self) -> Result<(), Failed> {
+        let errors = self.lines.over(&self.rt);
+        reported(&errors, "file size", refuse_file_size_limit(&self.rt))
+    }
+
     /// Opens the port of a node or of an arbiter.
     pub(crate) fn open_port(&mut self, opening: &Opening<'_>) -> Result<(), Failed> {
         let errors = self.lines.over(&self.rt);
@@ -229,8 +235,7 @@ impl<
 
     fn listen(&mut self, opening: &Opening<'_>) -> Result<(), Failed> {
         self.close();
-        let errors = self.lines.over(&self.rt);
-        reported(&errors, "file size", refuse_file_size_limit(&self.rt))?;
+        self.check_file_size()?;
         self.open_port(opening)
     }
 
