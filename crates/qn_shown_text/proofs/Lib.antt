@@ -1,4 +1,4 @@
+mod EntryTexts
 mod Printing
 mod StatusTexts
 mod Wholeness
-mod EntryTexts

@@ -2,7 +2,7 @@
 use Rattle.std.proofs.Common.{◌≡◌, ◌≤◌, ◌<◌, ℕ, ◌+◌, Bool, true, false, List, [], ◌∷◌, ◌++◌, length, refl, sym, ap, ◌∙◌, append_assoc, append-nil, arith, if◌then◌else◌, nat_lt}
 use Rattle.std.proofs.lemmas.Grind.{common_steps}
 use Rattle.qn_shown_text.specs.declared.fixed_text.FixedText.{FixedText}
-use Rattle.qn_shown_text.specs.FixedTexts.{with_byte, with_text}
+use Rattle.qn_shown_text.specs.FixedTexts.{nothing_yet, with_byte, with_text}
 
 -- a text with a byte more, and one that is cut
 abbrev longer : FixedText → ℕ → FixedText
@@ -58,3 +58,9 @@ has_no_room text (byte ∷ bytes) uncut is =
         → 14336 < length text.bytes.items + length (byte ∷ bytes)
     of_room true is ends rest = let more = rest ends in grind (arith, common_steps, more)
     of_room false is ends rest = grind (arith, common_steps)
+
+-- of a text that begins with nothing
+pub nothing_has_no_room : (bytes : List ℕ) → (with_text nothing_yet bytes).is_cut ≡ true → 14336 < length bytes
+nothing_has_no_room bytes is =
+    let more = has_no_room nothing_yet bytes refl is in
+    grind (arith, common_steps, more)

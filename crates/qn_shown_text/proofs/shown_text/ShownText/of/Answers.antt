@@ -6,7 +6,7 @@ use Rattle.qn_shown_text.specs.FixedTexts.{nothing_yet, with_byte, with_text}
 use Rattle.qn_shown_text.specs.JsonTexts.{with_json}
 use Rattle.qn_shown_text.specs.StatusTexts.{status_text}
 use Rattle.qn_shown_text.proofs.StatusTexts.{status_is}
-use Rattle.qn_shown_text.proofs.Wholeness.{has_no_room, whole}
+use Rattle.qn_shown_text.proofs.Wholeness.{nothing_has_no_room, whole}
 use Rattle.qn_shown_text.proofs.shown_text.ShownText.of.Goals as goal
 
 pub returns-then-is_cut-clause-room : goal.returns-then-is_cut-clause-room
@@ -18,7 +18,7 @@ returns-then-is_cut-clause-room c =
     ∙ status_is shown in
     let cut : (with_text nothing_yet (status_text shown)).is_cut ≡ true =
     ap (λ (t : FixedText). t.is_cut) (sym is) ∙ sym c.is_cut.ensures ∙ c.if-is_cut.true in
-    has_no_room nothing_yet (status_text shown) refl cut
+    nothing_has_no_room (status_text shown) cut
 
 pub returns-clause-text : goal.returns-clause-text
 returns-clause-text c =
