@@ -49,14 +49,14 @@ new_image sector =
 abbrev pub named_view : ℕ → ℕ → ℕ → View
 named_view rank number members = record { id = (rank + 1) * 2 ^ 56 + number; members = record { 0 = members } }
 
--- what a node says of itself that knows names: that alone
-abbrev knows_names : Standing
-knows_names = record { flags = 32; weight = 0 }
+-- what a node says of itself that knows names: that alone, and that it leans where it is able, which it is by the votes of the device
+abbrev standing_of : Bool → Standing
+standing_of is_able = record { flags = if is_able then 96 else 32; weight = 0 }
 
 -- a Hello: whom the node hears, and whom it follows; a node that follows another or itself is able
 abbrev hello : ℕ → ℕ → Option ℕ → List ℕ
 hello from hears follows =
-    packet_bytes (packet.Heard (rank_of from) (record { hears = record { 0 = hears }; follows = option_map rank_of follows; able = is_some follows }) knows_names)
+    packet_bytes (packet.Heard (rank_of from) (record { hears = record { 0 = hears }; follows = option_map rank_of follows; able = is_some follows }) (standing_of (is_some follows)))
 
 abbrev announce : ℕ → View → List ℕ
 announce from seen = packet_bytes (packet.Announce (rank_of from) seen)
