@@ -1,6 +1,6 @@
 -- From look to look of a running node its view maker keeps its view and its change.
 use Rattle.std.proofs.Common.{◌≡◌, ℕ, suc, zero, Bool, true, false, not, ◌&&◌, List, [], ◌∷◌, Option, None, Some, if◌then◌else◌, refl, sym, ◌∙◌, ap, subst}
-use Rattle.std.specs.Prelude.{nat_lt, option_map, slice_set}
+use Rattle.std.specs.Prelude.{nat_lt, option_map}
 use Rattle.std.proofs.lemmas.Bool.{false≢true}
 use Rattle.std.proofs.lemmas.Option.{none-some, same_Some}
 use Rattle.qn_base.specs.declared.calls.Call.{Call}
@@ -19,7 +19,7 @@ use Rattle.qn_model.specs.Log.{now}
 use Rattle.qn_model.specs.NodeOutputs.{newest_outs}
 use Rattle.qn_model.specs.Phases.{is_live, phase}
 use Rattle.qn_member.specs.Maker.{Maker, after_announce, after_hello, has_configured, is_configured, plain, says_more}
-use Rattle.qn_member.specs.Naming.{NamingMaker, after_named_announce, after_named_hello, after_stand, after_standing, has_bit, is_other, is_unable_then, knows_bit}
+use Rattle.qn_member.specs.Naming.{NamingMaker, after_named_announce, after_named_hello, after_stand, after_standing, has_bit, is_other, knows_bit}
 use Rattle.qn_member.specs.NamingViews.{after_look, after_naming_hello_due, is_naming_hello_due}
 use Rattle.qn_safety.specs.declared.polls.Poll.{Poll}
 use Rattle.qn_live.specs.declared.live_end.LiveEnd.{LiveEnd}
@@ -60,13 +60,7 @@ named_hello_next tick from said m = if_named (is_other m from) _ _ m.maker (hell
 
 standing_next : (from : ℕ) (standing : Standing) (m : NamingMaker) → IsNextLook m.maker (after_standing from standing m).maker
 standing_next from standing m =
-    let kept : NamingMaker =
-    record m {
-      flags = slice_set m.flags from standing.flags;
-      weights = slice_set m.weights from standing.weight;
-      unable = slice_set m.unable from (is_unable_then m from standing.flags);
-    } in
-    if_named (is_other m from && has_bit standing.flags knows_bit) kept m m.maker (next_same m.maker) (next_same m.maker)
+    if_named (is_other m from && has_bit standing.flags knows_bit) _ m m.maker (record { view = refl; change = refl }) (next_same m.maker)
 
 announce_next : (from : ℕ) (view : View) (m : NamingMaker) → IsNextLook m.maker (after_named_announce from view m).maker
 announce_next from view m =
