@@ -1,9 +1,9 @@
 //! The journal of a running node.
-ghost use Rattle.std.specs.Prelude.{◌≡◌, List};
+ghost use Rattle.std.specs.Prelude.{◌≡◌, List, true};
 ghost use Rattle.qn_io.specs.Receives.{FitsPacket};
 ghost use Rattle.qn_live.specs.Machine.{Stands};
 ghost use Rattle.qn_model.specs.Log.{Line};
-ghost use Rattle.qn_journal.specs.Statuses.{standing_shown};
+ghost use Rattle.qn_model.specs.Holding.{holds};
 
 use crate::arbiter::ArbiterNews;
 use crate::ending::end_text;
@@ -448,10 +448,12 @@ fn timeout_of(run: &NodeRun) -> u64 {
 }
 
 /// Where a node stands, as a status says it: one that has ended counts no votes, as a node that is off.
+#[tactic(auto, unfolding(qn_model::specs::Holding::holds))]
 fn shown_standing(run: &NodeRun) -> Standing
     ensures { (log : List Line)
         → Stands run.now log
-        → result ≡ standing_shown run.now.settings run.now.me.0 log }
+        → result.holds ≡ true
+        → holds log ≡ true }
 {
     let standing = run.standing();
     let me = run.rank();

@@ -64,7 +64,10 @@ pub(crate) struct Seen<'a> {
 pub(crate) fn status_of(seen: &Seen<'_>) -> Option<ShownText>
     ensures { IfSome result (IsStatusOf seen.now) }
 {
-    ShownText::of(&shown_of(seen)?)
+    match shown_of(seen) {
+        Some(shown) => ShownText::of(&shown),
+        None => None,
+    }
 }
 
 /// What the node shows.
@@ -73,6 +76,7 @@ fn shown_of(seen: &Seen<'_>) -> Option<Shown>
 {
     let standing = seen.standing;
     let (tick, time_ms) = (seen.at.tick, seen.at.time);
+    let why = why_of(standing)?;
     Some(Shown {
         answer: standing.answer,
         arbiter: arbiter_of(seen),
@@ -94,7 +98,7 @@ fn shown_of(seen: &Seen<'_>) -> Option<Shown>
         tick,
         time_ms,
         view: view_of(seen.nodes, standing),
-        why: why_of(standing)?,
+        why,
     })
 }
 
