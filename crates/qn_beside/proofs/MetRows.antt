@@ -114,6 +114,8 @@ hears_may =
 sees_may : May sees
 unfolding beside_steps
 sees_may =
+    (record { on = refl; asked = refl; waits = refl; answer = refl; spells = refl }, tt, record { hears = tt; spells = refl }, λ c. absurd (false≢true c)) ▸
+    (record { on = refl; asked = refl; waits = refl; answer = λ c. absurd (false≢true c); spells = refl }, tt, record { hears = λ c. absurd (false≢true c); spells = refl }, λ c. absurd (false≢true c)) ▸
     (record { on = refl; asked = refl; waits = refl; answer = tt; spells = refl }, tt, record { hears = tt; spells = refl }, λ c. absurd (false≢true c)) ▸
     (record { on = refl; asked = refl; waits = refl; answer = refl; spells = refl }, tt, record { hears = tt; spells = refl }, λ c. absurd (false≢true c)) ▸
     (record { on = refl; asked = refl; waits = refl; answer = tt; spells = refl }, tt, record { hears = tt; spells = refl }, λ c. absurd (false≢true c)) ▸
@@ -136,33 +138,31 @@ unfolding beside_steps
 first_view_may =
     (record { on = refl; asked = refl; waits = refl; answer = tt; spells = refl }, tt, record { hears = tt; spells = refl }, λ c. absurd (false≢true c)) ▸
     (record { on = refl; asked = refl; waits = refl; answer = tt; spells = refl }, tt, record { hears = tt; spells = refl }, λ c. absurd (false≢true c)) ▸
+    (record { on = refl; asked = refl; waits = refl; answer = tt; spells = refl }, tt, record { hears = tt; spells = refl }, λ c. absurd (false≢true c)) ▸
+    (record { on = refl; asked = refl; waits = refl; answer = λ ok. refl; spells = refl }, tt, record { hears = tt; spells = refl }, λ c. absurd (false≢true c)) ▸
+    ((refl, refl, refl), tt, tt, λ c. absurd (false≢true c)) ▸
+    (record { on = refl; asked = refl; waits = refl; answer = tt; spells = refl }, tt, record { hears = tt; spells = refl }, λ c. absurd (false≢true c)) ▸
     (record { on = refl; asked = refl; waits = refl; answer = refl; spells = refl }, tt, record { hears = tt; spells = refl }, λ c. absurd (false≢true c)) ▸
     (record { on = refl; asked = refl; waits = refl; answer = λ c. absurd (false≢true c); spells = refl }, tt, record { hears = λ c. absurd (false≢true c); spells = refl }, λ c. absurd (false≢true c)) ▸
+    (record { on = refl; asked = refl; waits = refl; answer = tt; spells = refl }, tt, record { hears = tt; spells = refl }, λ c. absurd (false≢true c)) ▸
+    (record { on = refl; asked = refl; waits = refl; answer = refl; spells = refl }, tt, record { hears = tt; spells = refl }, λ c. absurd (false≢true c)) ▸
+    (record { on = refl; asked = refl; waits = refl; answer = tt; spells = refl }, tt, record { hears = tt; spells = refl }, λ c. absurd (false≢true c)) ▸
+    (record { on = refl; asked = refl; waits = refl; answer = λ ok. refl; spells = refl }, tt, record { hears = tt; spells = refl }, λ c. absurd (false≢true c)) ▸
+    ((refl, refl, refl), tt, tt, λ c. absurd (false≢true c)) ▸
+    (record { on = refl; asked = refl; waits = refl; answer = refl; spells = refl }, tt, record { hears = tt; spells = refl }, λ c. absurd (false≢true c)) ▸
+    (record { on = refl; asked = refl; waits = refl; answer = tt; spells = refl }, tt, record { hears = tt; spells = refl }, λ c. absurd (false≢true c)) ▸
+    ((of_each_node _ refl refl, refl), refl, refl) ▸
     sees_may
 
 one_view_may : May one_view
 unfolding beside_steps
 one_view_may =
     (record { on = refl; asked = refl; waits = refl; answer = tt; spells = refl }, tt, record { hears = tt; spells = refl }, λ c. absurd (false≢true c)) ▸
-    (record { on = refl; asked = refl; waits = refl; answer = refl; spells = refl }, tt, record { hears = tt; spells = refl }, λ c. absurd (false≢true c)) ▸
-    (record { on = refl; asked = refl; waits = refl; answer = tt; spells = refl }, tt, record { hears = tt; spells = refl }, λ c. absurd (false≢true c)) ▸
-    (record { on = refl; asked = refl; waits = refl; answer = tt; spells = refl }, tt, record { hears = tt; spells = refl }, λ c. absurd (false≢true c)) ▸
-    (record { on = refl; asked = refl; waits = refl; answer = λ ok. refl; spells = refl }, tt, record { hears = tt; spells = refl }, λ c. absurd (false≢true c)) ▸
-    ((refl, refl, refl), tt, tt, λ c. absurd (false≢true c)) ▸
     (record { on = refl; asked = refl; waits = refl; answer = tt; spells = refl }, tt, record { hears = tt; spells = refl }, λ c. absurd (false≢true c)) ▸
     (record { on = refl; asked = refl; waits = refl; answer = refl; spells = refl }, tt, record { hears = tt; spells = refl }, λ c. absurd (false≢true c)) ▸
     (record { on = refl; asked = refl; waits = refl; answer = λ c. absurd (false≢true c); spells = refl }, tt, record { hears = λ c. absurd (false≢true c); spells = refl }, λ c. absurd (false≢true c)) ▸
     (record { on = refl; asked = refl; waits = refl; answer = tt; spells = refl }, tt, record { hears = tt; spells = refl }, λ c. absurd (false≢true c)) ▸
     (record { on = refl; asked = refl; waits = refl; answer = refl; spells = refl }, tt, record { hears = tt; spells = refl }, λ c. absurd (false≢true c)) ▸
-    (record { on = refl; asked = refl; waits = refl; answer = tt; spells = refl }, tt, record { hears = tt; spells = refl }, λ c. absurd (false≢true c)) ▸
-    (record { on = refl; asked = refl; waits = refl; answer = tt; spells = refl }, tt, record { hears = tt; spells = refl }, λ c. absurd (false≢true c)) ▸
-    (record { on = refl; asked = refl; waits = refl; answer = tt; spells = refl }, tt, record { hears = tt; spells = refl }, λ c. absurd (false≢true c)) ▸
-    (record { on = refl; asked = refl; waits = refl; answer = λ ok. refl; spells = refl }, tt, record { hears = tt; spells = refl }, λ c. absurd (false≢true c)) ▸
-    ((refl, refl, refl), tt, tt, λ c. absurd (false≢true c)) ▸
-    (record { on = refl; asked = refl; waits = refl; answer = tt; spells = refl }, tt, record { hears = tt; spells = refl }, λ c. absurd (false≢true c)) ▸
-    (record { on = refl; asked = refl; waits = refl; answer = refl; spells = refl }, tt, record { hears = tt; spells = refl }, λ c. absurd (false≢true c)) ▸
-    (record { on = refl; asked = refl; waits = refl; answer = tt; spells = refl }, tt, record { hears = tt; spells = refl }, λ c. absurd (false≢true c)) ▸
-    ((of_each_node _ refl refl, refl), refl, refl) ▸
     first_view_may
 
 misses_may : May misses
@@ -249,7 +249,7 @@ answered_0_may =
     (record { on = refl; asked = refl; waits = refl; answer = λ c. absurd (false≢true c); spells = refl }, tt, record { hears = λ c. (0, leb-true _ _ refl, refl); spells = refl }, λ c. absurd (false≢true c)) ▸
     (refl, tt) ▸
     (refl, refl) ▸
-    (refl, λ c. (25, leb-true _ _ refl, refl)) ▸
+    (refl, λ c. (23, leb-true _ _ refl, refl)) ▸
     polls_1_may
 
 answered_1_may : May answered_1
@@ -259,7 +259,7 @@ answered_1_may =
     (record { on = refl; asked = refl; waits = refl; answer = λ c. absurd (false≢true c); spells = refl }, tt, record { hears = λ c. (1, leb-true _ _ refl, refl); spells = refl }, λ c. absurd (false≢true c)) ▸
     (refl, tt) ▸
     (refl, refl) ▸
-    (refl, λ c. (28, leb-true _ _ refl, refl)) ▸
+    (refl, λ c. (26, leb-true _ _ refl, refl)) ▸
     answered_0_may
 
 first_together : IsQuorateHost (with_device 10) (named_view 0 1 3) (host_after (with_device 10) short_lease new_image one_view 0)
