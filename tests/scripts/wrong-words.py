@@ -62,6 +62,8 @@ ROWS = {
     "tests/machines/hypervisor": "2 2 help 2 - 2 2 2",
     "tests/machines/judge": "2 2 help 2 2 0 0 2",
     "tests/machines/machines": "2 2 2 2 2 2 2 2",
+    "tests/machines/quorums": "2 2 help 2 2 0 0 2",
+    "tests/machines/relay": "2 2 help 2 2 2 2 2",
     "tests/make-vector-rows": "2 2 help 2 2 2 2 2",
     "tests/over-etcd": "1 1 1 1 1 1 1 1",
     "tests/over-nbd": "1 1 1 1 1 1 1 1",
@@ -70,7 +72,7 @@ ROWS = {
 # no words of an operator: what starts a program or the gate, what dpkg or a machine starts
 LEFT_OUT = {"bin/quorumd", "bin/quorumctl", "bench/qn_soak_nodes", "bench/qn_tests", ".ci/run", ".ci/daily", ".ci/tools", "debian/postinst", "debian/postrm", "debian/prerm", "debian/rules",
             "debian/tests/first-answer", "debian/tests/looks", "debian/tests/take-over", "tests/hosts/ask_arbiter", "tests/hosts/database",
-            "tests/machines/init"}
+            "tests/machines/held", "tests/machines/init"}
 
 
 def scripts():
