@@ -2,31 +2,44 @@
 nothing of itself, it goes by the rules of members.py."""
 from collections import namedtuple
 
-from members import NOBODY, Member, View, name_of, next_number, plain_number
+from members import NOBODY, Member, Said, View, name_of, next_number, plain_number
 
 # What a node says of itself beside its Hello: it votes and never holds; it may not hold now; it asks for the resource; it holds; it holds or sees a
-# node that says so; and its weight.
-Standing = namedtuple("Standing", "barred unfit pull holds keeps weight", defaults=(False,) * 5 + (0,))
+# node that says so; its weight; and it is able to lead with the votes of the device alone.
+Standing = namedtuple("Standing", "barred unfit pull holds keeps weight leans", defaults=(False,) * 5 + (0, False))
 
 SILENT = Standing()
 KNOWS_NAMES = 32  # the flag without which the last two bytes of a Hello mean nothing
+LEANS = 64
+
+# What a Hello counts as with two_node, at a node that does not hold, where its sender never starts and did not name that node.
+NAMES_NOBODY = Said((), None, False)
 
 
 def flags_of(standing):
     """The flags of a Hello."""
-    return KNOWS_NAMES + sum(1 << place for place, flag in enumerate(standing[:5]) if flag)
+    return KNOWS_NAMES + sum(1 << place for place, flag in enumerate(standing[:5]) if flag) + (LEANS if standing.leans else 0)
+
+
+def never_starts(standing):
+    """Whether no view lets a node start that says so."""
+    return standing.barred or standing.unfit and not standing.holds
 
 
 def standing_of(flags, weight):
     """What the last two bytes of a Hello say of its sender; None where they mean nothing."""
-    return Standing(*(flags >> place & 1 == 1 for place in range(5)), weight) if flags & KNOWS_NAMES else None
+    return Standing(*(flags >> place & 1 == 1 for place in range(5)), weight, flags & LEANS > 0) if flags & KNOWS_NAMES else None
 
 
 class NamingMember(Member):
-    """A member that says of itself what it is told at each look, and names a candidate in each view that it makes."""
+    """A member that says of itself what it is told at each look, and names a candidate in each view that it makes. `sure` are the votes that a side
+    needs of its own nodes where a device gives it none: as many as `enough` where there is no device."""
 
-    def __init__(self, ident, votes, enough, loop):
+    def __init__(self, ident, votes, enough, loop, sure=0):
         super().__init__(ident, votes, enough, loop)
+        self.sure = max(enough, sure) if enough else 0
+        self.deaf = set()  # whose last Hello did not name this node
+        self.unable = set()  # who said that it never starts, and named this node in no Hello since that does not say so
         self.standings = {}  # of each other node: what it says of itself, where its last Hello does
         self.stands = SILENT  # what the node says of itself: after a look with what that found
         self.known = self.visible_now = (ident,)  # who was visible at the last look, and of whom of them it is known
@@ -43,8 +56,16 @@ class NamingMember(Member):
         super().on_hello(tick, sender, said)
         if sender in self.votes and sender != self.ident and self.said[sender].follows not in (None, sender):
             self.withdrawn.add(sender)
+        if sender in self.votes:
+            (self.deaf.discard if self.ident in said.hears else self.deaf.add)(sender)
         if standing is not None and sender in self.votes:
             self.standings[sender] = standing
+            if never_starts(standing):
+                self.unable.add(sender)
+            elif sender not in self.deaf:
+                self.unable.discard(sender)
+            if self.enough == 0 and not self.stands.holds and sender in self.deaf & self.unable:
+                self.said[sender] = NAMES_NOBODY
         else:
             self.standings.pop(sender, None)
 
@@ -58,7 +79,7 @@ class NamingMember(Member):
 
     def stand(self, words, holds):
         """What the node says of itself from now on, by its own words and whether it holds."""
-        self.stands = words._replace(holds=holds, keeps=False)
+        self.stands = words._replace(holds=holds, keeps=False, leans=False)
 
     def look(self, tick, words=SILENT, holds=False):
         """The view that the node is handed at this tick, by the same; None where it is handed none."""
@@ -77,7 +98,9 @@ class NamingMember(Member):
         self.visible_now, self.looked = visible, tick
         self.known = tuple(ident for ident in visible if ident == self.ident or ident in self.standings)
         self.is_mixed = self.enough == 0 or self.known != visible
-        self.stands = self.stands._replace(keeps=any(self.standing(ident).holds for ident in self.known))
+        keeps = any(self.standing(ident).holds for ident in self.known)
+        leans = self.is_fit_to_lead(visible) and not self.has_sure_votes(visible)
+        self.stands = self.stands._replace(keeps=keeps, leans=leans)
         company = super().note(tick)
         if self.led_since is None or self.leader != before:
             self.led_since, self.came = tick, set()
@@ -85,8 +108,7 @@ class NamingMember(Member):
 
     def own_copy(self):
         """The present view; with the name of nobody where it would let a node start that is barred, or unfit and does not hold."""
-        may_not = self.stands.barred or self.stands.unfit and not self.stands.holds
-        if self.view is None or not may_not or self.chosen_by(self.view) != self.ident:
+        if self.view is None or not never_starts(self.stands) or self.chosen_by(self.view) != self.ident:
             return self.view
         return View(NOBODY << 56 | self.view.number % 2 ** 56, self.view.members)
 
@@ -123,14 +145,24 @@ class NamingMember(Member):
     def is_able(self, visible):
         if self.is_mixed:
             return super().is_able(visible)
+        return self.is_fit_to_lead(visible)
+
+    def is_fit_to_lead(self, visible):
         return self.is_fit(self.ident) and sum(self.votes[ident] for ident in visible) >= self.enough
 
+    def has_sure_votes(self, visible):
+        return sum(self.votes[ident] for ident in visible) >= self.sure
+
+    def is_sure(self, ident, visible):
+        """Whether a visible node has the votes that a side needs without those of the device, as it says or as this one finds."""
+        return self.has_sure_votes(visible) if ident == self.ident else not self.standing(ident).leans
+
     def followed(self, visible):
-        """The least able visible node that keeps, else the least able one, of any rank."""
+        """The least able visible node that keeps, else the least able one, of any rank; of each of these one that is sure of its votes first."""
         if self.is_mixed:
             return super().followed(visible)
         able = [ident for ident in visible if (self.is_able(visible) if ident == self.ident else self.said[ident].able)]
-        return min(able, key=lambda ident: (not self.keeps(ident), ident), default=None)
+        return min(able, key=lambda ident: (not self.keeps(ident), not self.is_sure(ident, visible), ident), default=None)
 
     def is_led(self, ident):
         if self.is_mixed:

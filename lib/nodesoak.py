@@ -14,12 +14,13 @@ from traces import program
 
 TOP = pathlib.Path(__file__).resolve().parent.parent
 KINDS = ("quiet", "cuts", "kills", "pauses", "disks", "damages", "operators", "losses", "leaves", "restarts", "agents", "isolations", "links",
-         "device-links", "named-links", "standbys", "witness", "outages", "device", "images", "mixed")
+         "device-links", "named-links", "standbys", "witness", "outages", "device", "arbiter", "images", "mixed")
 LINKED = ("links", "device-links", "named-links")  # kinds whose seeds are patterns of cut links, one after another
 SPREAD = 7919  # from one of their seeds to the next, so that few seeds are patterns of all sorts, while the nodes run and before they boot
 NODES = (3, 2, 5)
 DELAYS = (0, 3000)
 IMAGES = (1, 3)
+LIMIT = 2000  # milliseconds within which nodes that poll an arbiter take its replies
 SECONDS = 300
 COUNTS = ("turns", "events", "disturbances", "boots", "starts", "take-overs", "resets", "of-well", "told")
 COMPARED_EACH = 53  # of so many runs one is written down and compared, and lasts COMPARED_SECONDS
@@ -31,12 +32,18 @@ Line = collections.namedtuple("Line", "fault detail counts longest at")
 
 
 def nodes_of(kind, nodes):
-    """How many nodes a run of a kind has: beside a device that votes by chance three, and where links are cut for good four in place of two."""
-    return 3 if kind == "device" else 4 if kind in LINKED and nodes == 2 else nodes
+    """How many nodes a run of a kind has: beside a device that votes by chance three, where links are cut for good four in place of two, and beside an
+    arbiter in place of five."""
+    return 3 if kind == "device" else 4 if kind in LINKED and nodes == 2 or kind == "arbiter" and nodes == 5 else nodes
+
+
+def delay_of(kind, delay):
+    """The fence delay of each node in a run of a kind: beside an arbiter a long one, so that nodes of a cut are not reset before the arbiter went wrong."""
+    return 15000 if kind == "arbiter" and delay else delay
 
 
 # The runs of a seed: of every kind, and the losses of an image on three alone.
-RUNS = [Run(0, nodes_of(kind, nodes), SECONDS, kind, delay, images)
+RUNS = [Run(0, nodes_of(kind, nodes), SECONDS, kind, delay_of(kind, delay), images)
         for kind, nodes, delay, images in itertools.product(KINDS, NODES, DELAYS, IMAGES) if kind != "images" or images == 3]
 
 
@@ -144,6 +151,7 @@ def write_logs(folder, run):
         head, lines = log.split("\n", 1)
         ident, _, mode, _, leave = map(int, re.sub(r"[a-z-]+", "0", head).split())
         words = ["--id", str(ident), "--turns", "1000000000"] + ["--images", "3"] * (run.images == 3)
+        words += ["--polls", str(LIMIT)] * (run.kind == "arbiter")
         audits.append((ident, leave or None, words + ["--start-mode", "1"] * (mode == 1) + ["--leave", str(leave)] * (leave != 0)))
         (folder / ("log.%d" % ident)).write_text(lines)
         said = [line for line in errors.splitlines(True) if line.startswith("quorumd: node=%d " % ident)]

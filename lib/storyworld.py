@@ -164,7 +164,7 @@ class World:
         self.serve(host, report.outs)
         for deed in deeds:
             if deed.kind == "up":
-                host.member = NamingMember(host.ident, self.votes.of_nodes, self.votes.enough, self.timing.loop)
+                host.member = NamingMember(host.ident, self.votes.of_nodes, self.votes.enough, self.timing.loop, self.votes.sure)
                 host.member.stand(host.words, False)
             if deed.kind == "halts" and host.node.runs:
                 self.later_in_boot(DOWN_MS, host, self.crash, "by that message")

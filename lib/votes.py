@@ -2,8 +2,9 @@
 means."""
 from collections import namedtuple
 
-# The votes of each node by its id, ascending, those that a side needs of its own nodes to lead (0 with two_node), and those of the device.
-Votes = namedtuple("Votes", "of_nodes enough device")
+# The votes of each node by its id, ascending, those that a side needs of its own nodes to lead (0 with two_node), those of the device, and those that a side needs
+# where the device gives it none.
+Votes = namedtuple("Votes", "of_nodes enough device sure")
 
 
 def votes_of(settings):
@@ -14,7 +15,7 @@ def votes_of(settings):
     is_on = lambda key: int(quorum.get(key, 0)) != 0
     of_device = int(device.get("votes", every - 1)) if "model" in device and not is_on("last_man_standing") else 0
     needed = int(quorum.get("expected_votes", every + of_device)) // 2 + 1
-    return Votes(dict(sorted(of_nodes.items())), 0 if is_on("two_node") else max(1, needed - of_device), of_device)
+    return Votes(dict(sorted(of_nodes.items())), 0 if is_on("two_node") else max(1, needed - of_device), of_device, needed)
 
 
 def sections_of(settings):

@@ -18,6 +18,7 @@ GO, ACK, INFO, UNKNOWN = 7, 1, 3, 2**31 + 6
 REQUEST, ANSWER = 0x25609513, 0x67446698
 READ, WRITE, FUA = 0, 1, 1
 HAS_FLAGS, READ_ONLY, SEND_FUA = 1, 2, 8
+EXPORT = ":exportname="  # between the path of a socket and the name of an export
 SIZE = 1 << 20
 
 
@@ -111,8 +112,9 @@ def connected(word):
     """A connection to the export of that word, past its beginning."""
     place = word.removeprefix("nbd:")
     if place.startswith("unix:"):
-        stream, name = socket.socket(socket.AF_UNIX), b""
-        stream.connect(place.removeprefix("unix:"))
+        path, _, name = place.removeprefix("unix:").partition(EXPORT)
+        stream, name = socket.socket(socket.AF_UNIX), name.encode()
+        stream.connect(path)
     else:
         address, _, name = place.partition("/")
         host, port = address.rsplit(":", 1)
@@ -166,13 +168,44 @@ def nbdkit(folder, file):
 
 def nbd_server(folder, file):
     """By TCP, where an export has a name. It goes into the background."""
-    port, settings = free_tcp_port(), folder / "nbd-server.conf"
-    text = "[generic]\nlistenaddr = 127.0.0.1\nport = %d\n[q]\nexportname = %s\nsync = true\nflush = true\nfua = true\n"
-    settings.write_text(text % (port, file))
-    pid = folder / "nbd-server.pid"
-    atexit.register(lambda: os.kill(int(pid.read_text()), signal.SIGTERM))
-    serve(["nbd-server", "-C", settings, "-p", pid], lambda: is_open(socket.AF_INET, ("127.0.0.1", port)))
+    port = free_tcp_port()
+    serve_q(folder, file, "listenaddr = 127.0.0.1\nport = %d" % port, lambda: is_open(socket.AF_INET, ("127.0.0.1", port)))
     return "nbd:127.0.0.1:%d/q" % port
+
+
+def serve_q(folder, file, place, is_up):
+    """Starts nbd-server at that place, with the file as the export q."""
+    settings, pid = folder / "nbd-server.conf", folder / "nbd-server.pid"
+    settings.write_text("[generic]\n%s\n[q]\nexportname = %s\nsync = true\nflush = true\nfua = true\n" % (place, file))
+    atexit.register(lambda: os.kill(int(pid.read_text()), signal.SIGTERM))
+    serve(["nbd-server", "-C", settings, "-p", pid], is_up)
+
+
+def by_name(folder):
+    """The servers of this host that serve names only, each over a file of zeros in the folder at a Unix socket: the word without a name, the one
+    with the name, and the file."""
+    for name, start in (("nbdkit", nbdkit_of_files), ("nbd-server", nbd_server_at_a_socket)):
+        if not shutil.which(name):
+            print("skipped: %s is not installed" % name)
+            continue
+        file = folder / name / "q"
+        file.parent.mkdir()
+        file.write_bytes(bytes(SIZE))
+        word = start(folder, file)
+        yield word, word + EXPORT + "q", file
+
+
+def nbdkit_of_files(folder, file):
+    """Each export is the file of that name."""
+    path = folder / "nbdkit-of-files.socket"
+    serve(["nbdkit", "-f", "-U", path, "file", "dir=%s" % file.parent], lambda: is_open(socket.AF_UNIX, str(path)))
+    return "nbd:unix:%s" % path
+
+
+def nbd_server_at_a_socket(folder, file):
+    path = folder / "nbd-server.socket"
+    serve_q(folder, file, "unixsock = %s" % path, lambda: is_open(socket.AF_UNIX, str(path)))
+    return "nbd:unix:%s" % path
 
 
 def is_open(family, address):

@@ -211,16 +211,15 @@ class Run:
             if view is not None:
                 self.tell_others(Announce(self.me, View(*view)))
 
-    MEMBER = NamingMember
-
-    def new_member(self):
+    def enough(self):
+        """The votes that a side needs of its own nodes to lead."""
         of_device = self.settings.device[0] if self.settings.device else 0
-        enough = 0 if self.settings.two_node else max(1, self.settings.expected // 2 + 1 - of_device)
-        return self.MEMBER(self.me, dict(enumerate(self.settings.votes)), enough, self.core.times.loop)
+        return 0 if self.settings.two_node else max(1, self.settings.expected // 2 + 1 - of_device)
 
     def begins(self):
         """The view maker of a node that comes up."""
-        member = self.new_member()
+        votes, needed = dict(enumerate(self.settings.votes)), self.settings.expected // 2 + 1
+        member = NamingMember(self.me, votes, self.enough(), self.core.times.loop, needed)
         member.stand(*self.stands())
         return member
 
@@ -237,10 +236,8 @@ class Run:
 class RunBefore(Run):
     """A node of the release before: it names nobody, says each Hello in both forms, and knows no named view."""
 
-    MEMBER = Member
-
     def begins(self):
-        return self.new_member()
+        return Member(self.me, dict(enumerate(self.settings.votes)), self.enough(), self.core.times.loop)
 
     def look(self, tick):
         return self.member.look(tick)

@@ -63,5 +63,7 @@ def rotate(cluster, start, steps=STEPS):
     led = [[1, 2, 3], [1, 2], [1, 2, 3], [1, 3], [1, 2, 3]]
     # who is up first leads the first views, until the others are seen
     same("views of node 1", [announced(run)[-len(led):] for run in runs[1][:-1]] + [announced(runs[1][-1])], [led] * rounds + [[[1, 2, 3]]])
-    same("views of node 2", [announced(run) for run in runs[2][1:]], [[[2, 3]]] * rounds)
+    same("views of node 2", [announced(run)[:1] for run in runs[2][1:]], [[[2, 3]]] * rounds)
+    # on a slow machine node 2 may announce the view of all before node 1, which just came back, does
+    same("later views of node 2", [view for run in runs[2][1:] for view in announced(run)[1:] if view != [1, 2, 3]], [])
     same("views of node 3", [announced(run) for run in runs[3][1:]], [[]] * rounds)

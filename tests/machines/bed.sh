@@ -44,6 +44,25 @@ unpack_kernel() {
     return 1
 }
 
+# make_python: what the machines of an arbiter have besides: Python, with the supervisor of the resources and what its group runs
+make_python() {
+    local root=$room/python name
+    [ ! -e "$root" ] || return 0
+    mkdir -p "$root/bin" "$root/lib" "$root/lib64" "$root/usr/lib" "$root/q/ocf/resource.d/t"
+    cp -L /usr/bin/python3 "$root/bin/python3" && cp -a /usr/lib/python3.11 "$root/usr/lib/" || return 1
+    (cd "$root/usr/lib/python3.11" && rm -rf test idlelib lib2to3 ensurepip pydoc_data turtledemo tkinter distutils unittest asyncio config-3.11-* dist-packages)
+    cp "$here/../../contrib/quorumd-resource" "$here"/../../contrib/*.py "$here/held" "$root/q/" && cp "$asker" "$root/bin/quorumctl" || return 1
+    for name in $(ldd "$root/bin/python3" "$root/bin/quorumctl" "$root"/usr/lib/python3.11/lib-dynload/_ctypes.*.so | grep -o '/[^ ]*' | grep -v ':$' | sort -u); do
+        case $name in */ld-linux*) ;; *) cp -L "$name" "$root/lib/" ;; esac
+    done
+    printf '#!/bin/sh\nexit 0\n' > "$root/bin/systemctl"
+    printf '[file]\nagent = ocf:t:File\n' > "$root/q/resources"
+    echo AGENT=group > "$root/q/agent.env"
+    printf '#!/bin/sh\ncase $1 in\nstart) echo held > /run/resource ;;\nstop) echo free > /run/resource ;;\nmonitor) grep -q held /run/resource || exit 7 ;;\nesac\n' \
+        > "$root/q/ocf/resource.d/t/File"
+    chmod 755 "$root/bin/systemctl" "$root/q/ocf/resource.d/t/File" "$root/q/held"
+}
+
 # make_root: what a machine boots on: busybox, the drivers, the program, a block server and a relay
 make_root() {
     local root=$room/root name
@@ -74,9 +93,12 @@ fault() {
     [ -z "${QUORUMD_TEST_LIAR-}" ] || "lie_$QUORUMD_TEST_LIAR"
 }
 
-# set_up WAY: three machines that are off, their network, and a disk made in that way: nbd, three, etcd
+# set_up WAY: three machines that are off, their network, and a disk made in that way: nbd, three, etcd. With ARBITER the third one is the arbiter of the
+# two others, and with ARBITER=2 there is a fourth one with the same address
 set_up() {
     way=$1
+    numbers=(1 2 3)
+    [ "${ARBITER-}" != 2 ] || numbers=(1 2 3 4)
     : > "$room/events"
     rm -f "$room"/*.log
     make_settings
@@ -84,7 +106,7 @@ set_up() {
     "disk_$way" || { echo "no disk: $way"; return 1; }
     pack_root
     local number
-    for number in 1 2 3; do
+    for number in "${numbers[@]}"; do
         qemu_words "$number" 1 > "$room/qemu.$number"
     done
     mkfifo "$room/commands"
@@ -95,12 +117,14 @@ set_up() {
 
 # with DEVICE a quorum device of so many votes, for which nobody speaks
 make_settings() {
-    local number
+    local number nodes=(1 2 3)
+    [ -z "${ARBITER-}" ] || nodes=(1 2)
     {
         echo 'nodelist {'
-        for number in 1 2 3; do printf ' node {\n  nodeid: %s\n  ring0_addr: 10.7.0.%s\n }\n' "$number" "$number"; done
+        for number in "${nodes[@]}"; do printf ' node {\n  nodeid: %s\n  ring0_addr: 10.7.0.%s\n }\n' "$number" "$number"; done
         printf '}\nquorum {\n provider: corosync_votequorum\n'
         [ -z "${DEVICE-}" ] || printf ' device {\n  model: net\n  votes: %s\n }\n' "$DEVICE"
+        [ -z "${ARBITER-}" ] || printf ' device {\n  model: net\n  votes: 1\n  timeout: 10000\n  net {\n   host: 10.7.0.3\n  }\n }\n'
         printf '}\n'
     } > "$room/conf"
     (umask 077 && head -c 32 /dev/urandom > "$room/key")
@@ -111,9 +135,20 @@ make_network() {
     local number
     ip netns add "$tag" && ip -n "$tag" link set lo up && ip -n "$tag" link add br0 type bridge && ip -n "$tag" address add 10.7.0.254/24 dev br0 &&
         ip -n "$tag" link set br0 up || exit 1
-    for number in 1 2 3; do
+    for number in "${numbers[@]}"; do
         ip -n "$tag" tuntap add "t$number" mode tap && ip -n "$tag" link set "t$number" master br0 && ip -n "$tag" link set "t$number" up || exit 1
     done
+    [ -z "${ARBITER-}" ] || relayed
+}
+
+# relayed: what passes between machine 3 and the bridge goes through a relay, which has its commands from $room/passing
+relayed() {
+    ip -n "$tag" link set t3 nomaster && ip -n "$tag" link add r3 type veth peer name b3 && ip -n "$tag" link set b3 master br0 &&
+        ip -n "$tag" link set b3 up && ip -n "$tag" link set r3 up || exit 1
+    mkfifo "$room/passing"
+    quickly "$here/relay" t3 r3 < "$room/passing" > "$room/relay.log" 2>&1 &
+    servers[9]=$!
+    exec 6> "$room/passing"
 }
 
 create() { inside "$program" create --image "$1" --timing "$TIMES" < "$room/conf"; }
@@ -184,23 +219,26 @@ pack_root() {
     cp "$room/conf" "$room/key" "$room/root/"
     chmod 400 "$room/root/key"
     (cd "$room/root" && find . | busybox cpio -o -H newc 2> /dev/null) > "$room/initrd"
+    [ -z "${ARBITER-}" ] || { make_python && (cd "$room/python" && find . | busybox cpio -o -H newc 2> /dev/null) >> "$room/initrd"; }
 }
 
 # qemu_words NUMBER START: the words of QEMU for that machine, one a line. Its node starts at once where START is 1, else when it is told
 qemu_words() {
-    local number=$1 port sectors=512 seconds=$WATCHDOG
+    local number=$1 port sectors=512 seconds=$WATCHDOG address=$1 role=node
+    [ -z "${ARBITER-}" ] || role=supervised
+    [ -z "${ARBITER-}" ] || [ "$number" -lt 3 ] || { address=3; role=arbiter; }
     [ -z "${STRIDE-}${LONG-}" ] || sectors=4096
     [ "$number" != "${WRONG-0}" ] || seconds=30
     printf '%s\n' qemu-system-x86_64 -machine pc -accel "$ACCEL" -cpu max -m 256 -smp 1 -nodefaults -no-user-config -display none -no-reboot \
         -kernel "$cache/vmlinux" -initrd "$room/initrd" -append \
-        "console=ttyS0 quiet panic=0 clocksource=hpet tsc=unstable no_timer_check lab.id=$number lab.way=$way lab.watchdog=$seconds lab.image=$image lab.start=$2 lab.liar=${QUORUMD_TEST_LIAR-none}" \
+        "console=ttyS0 quiet panic=0 clocksource=hpet tsc=unstable no_timer_check lab.id=$number lab.way=$way lab.watchdog=$seconds lab.image=$image lab.start=$2 lab.address=$address lab.role=$role lab.liar=${QUORUMD_TEST_LIAR-none}" \
         -device i6300esb -action watchdog=reset \
-        -netdev "tap,id=net,ifname=t$number,script=no,downscript=no" -device "virtio-net-pci,netdev=net,mac=52:54:00:07:00:0$number,romfile="
+        -netdev "tap,id=net,ifname=t$number,script=no,downscript=no" -device "virtio-net-pci,netdev=net,mac=52:54:00:07:00:0$number,romfile=${ARBITER:+,csum=off}"
     for port in console orders signs; do
         printf '%s\n' -serial "unix:$room/$port.$number"
     done
     printf '%s\n' -qmp "unix:$room/qmp.$number"
-    [ "$way" != nbd ] || printf '%s\n' -drive "if=none,id=shared,file=$room/disk,format=raw,cache=none,file.locking=off" \
+    [ "$way" != nbd ] || [ "$role" = arbiter ] || printf '%s\n' -drive "if=none,id=shared,file=$room/disk,format=raw,cache=none,file.locking=off" \
         -device "virtio-blk-pci,id=disk,drive=shared,share-rw=on,logical_block_size=$sectors,physical_block_size=$sectors"
 }
 
@@ -249,14 +287,14 @@ keep() {
 
 take_down() {
     local pid
-    [ -z "${hypervisor-}" ] || { tell end; exec 7>&-; wait "$hypervisor" 2> /dev/null; }
+    [ -z "${hypervisor-}" ] || { tell end; exec 7>&- 6>&-; wait "$hypervisor" 2> /dev/null; }
     hypervisor=
     for pid in "${servers[@]-}"; do
         [ -z "$pid" ] || kill -KILL "$pid" 2> /dev/null
     done
     servers=()
     ip netns delete "$tag" 2> /dev/null
-    rm -rf "$room"/qemu.? "$room"/console.? "$room"/orders.? "$room"/signs.? "$room"/qmp.? "$room/commands" "$room"/disk* "$room"/member.?
+    rm -rf "$room"/qemu.? "$room"/console.? "$room"/orders.? "$room"/signs.? "$room"/qmp.? "$room/commands" "$room/passing" "$room/saved" "$room"/disk* "$room"/member.?
     return 0
 }
 
@@ -267,3 +305,4 @@ tear_down() {
 hypervisor=
 servers=()
 looked_at=()
+numbers=(1 2 3)

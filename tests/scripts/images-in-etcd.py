@@ -328,4 +328,16 @@ def each_request_fails():
             each.result()
 
 
-try_all(rows, heads, words_that_are_none, prefix_in_use, one_node, late_write, second_start, another_machine, two_nodes, three_images, each_request_fails)
+def times_that_an_election_outlasts():
+    """`quorumctl check` says so of a watchdog's time below 9 s, and ends as it does without."""
+    image = "etcd:%s/test/election" % HOST
+    line = "warning: an election of etcd may take 9000 ms, and the watchdog's time is 5000 ms: each node is reset then. Give each member --pre-vote, or the image longer times"
+    for timing, said in ("5000,10000,1000,2000,1000", [line]), ("9000,20000,1000,2000,1000", []):
+        subprocess.run([QUORUMD, "create", "--image", image, "--timing", timing], stdin=open(TOP + "/examples/two-node.conf"), stdout=subprocess.DEVNULL,
+                       stderr=subprocess.DEVNULL, check=True)
+        done = subprocess.run([os.environ["QUORUMCTL"], "check", "--image", image], stdin=subprocess.DEVNULL, capture_output=True, check=False)
+        same(timing, (done.returncode, [line for line in done.stdout.decode().splitlines() if "election" in line]), (0, said))
+        Keys(HOST).delete("test/election")
+
+
+try_all(rows, heads, words_that_are_none, prefix_in_use, one_node, late_write, second_start, another_machine, two_nodes, three_images, each_request_fails, times_that_an_election_outlasts)

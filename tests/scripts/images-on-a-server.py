@@ -60,6 +60,15 @@ def commands_as_on_a_file():
     same("each write is to last", set(own.lasting), {True})
 
 
+def names_over_a_socket():
+    """A server that serves names only refuses the export without one; with one each command does as on a file."""
+    folder = pathlib.Path("names").absolute()
+    folder.mkdir()
+    for unnamed, named, file in nbd.by_name(folder):
+        same(unnamed, answer("list", unnamed), (8, "fault EnvFault\n", "the server refuses the export\n"))
+        is_as_a_file(named, file.read_bytes)
+
+
 def places_of_4096_bytes():
     folder = pathlib.Path("long").absolute()
     folder.mkdir()
@@ -168,4 +177,4 @@ def three_servers():
     same("its slots", [cluster.listed(1, image=image) for image in cluster.images], ["incarnation 1 clean mail exit"] * 3)
 
 
-try_all(commands_as_on_a_file, places_of_4096_bytes, what_is_refused, an_export_that_can_only_be_read, a_node, three_servers)
+try_all(commands_as_on_a_file, names_over_a_socket, places_of_4096_bytes, what_is_refused, an_export_that_can_only_be_read, a_node, three_servers)

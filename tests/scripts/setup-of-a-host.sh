@@ -154,15 +154,15 @@ same "$(stat -c %a etc/quorumd/key) $(grep ^EDGE etc/quorumd/node-3.env)" '600 E
 
 # an image in an etcd cluster, which answers: the node may read which boot of the machine this is
 mkdir played
-printf '#!/bin/sh\n[ "$1" != settings ] || exec "%s" "$@"\n' "$QUORUMCTL" > played/quorumctl
-printf '#!/bin/sh\n[ "$1" = dump ] || exec "%s" "$@"\nprintf "watchdog 5000\\nmsgwait 10000\\n"\n' "$QUORUMD" > played/quorumd
-chmod 755 played/quorumctl played/quorumd
+election='warning: an election of etcd may take 9000 ms, and so on'
+printf '#!/bin/sh\n[ "$1" != settings ] || exec "%s" "$@"\n[ "$1" != check ] || echo "%s"\n' "$QUORUMCTL" "$election" > played/quorumctl
+chmod 755 played/quorumctl
 rm -r etc/quorumd/node-1.env etc/systemd
 PATH=$PWD/played:$PATH setup 0 'node 1 of three.conf is set up: systemctl enable --now quorumd@1.service' three.conf --image etcd:127.0.0.1:2379/quorumd --id 1
 same "$(grep -v '^#' 'etc/systemd/system/quorumd@1.service.d/setup.conf' | xargs)" '[Unit] [Service] ProcSubset=all'
-same "$(grep election said | cut -d : -f 3-)" " an election of etcd may take 9000 ms, and etcd:127.0.0.1:2379/quorumd has a watchdog's time of 5000 ms: each node is reset then. Give each member --pre-vote, or the image longer times"
+same "$(grep election said)" "quorumd-setup: etcd:127.0.0.1:2379/quorumd: $election"
 rm -r etc/systemd etc/quorumd/node-1.env
-sed -i 's/watchdog 5000/watchdog 9000/' played/quorumd
+printf '#!/bin/sh\n[ "$1" != settings ] || exec "%s" "$@"\n' "$QUORUMCTL" > played/quorumctl
 PATH=$PWD/played:$PATH setup 0 'node 1 of three.conf is set up: systemctl enable --now quorumd@1.service' three.conf --image etcd:127.0.0.1:2379/quorumd --id 1
 same "$(grep -c election said)" 0
 

@@ -12,7 +12,7 @@ from live import same
 
 TOP = pathlib.Path(os.environ["TOP"])
 BUILT = subprocess.run([TOP / "bench" / "qn_soak_nodes", "--program"], stdout=subprocess.PIPE, stderr=subprocess.DEVNULL, check=False, text=True).stdout.strip()
-RUNS = ("2 1 3 60 kills 0", "5 1 5 40 leaves 3000", "3 1 3 60 operators 0", "2 1 3 60 images 0 images 3", "6 1 3 60 damages 0 images 3",
+RUNS = ("2 1 3 60 kills 0", "5 1 5 40 leaves 3000", "3 1 3 60 operators 0", "4 1 2 60 arbiter 0", "2 1 3 60 images 0 images 3", "6 1 3 60 damages 0 images 3",
         "4 1 3 60 operators 0 images 3", "7 1 5 40 mixed 3000 images 3",
         # a machine ends when its node has told that it is to start, and before it makes that call
         "20261404 1 5 100 isolations 0 images 3")

@@ -1,5 +1,6 @@
-"""Texts with two rings as pcs, crmsh and Proxmox write them: `quorumctl settings` shows both networks, and quorumd takes the text. A ring that some
+"""Texts with two rings as pcs, crmsh and Proxmox write them: `quorumctl settings` and `check` show both networks, and quorumd takes the text. A ring that some
 nodes lack, links of mixed kinds, a doubled address and an address of both networks are refused, each with its line."""
+import json
 import os
 import pathlib
 import subprocess
@@ -179,6 +180,21 @@ def settings(text):
     return status, [line for line in lines.splitlines() if line.startswith("network ") or "ring" in line]
 
 
+def check(text):
+    """The status of `quorumctl check` of an image of three nodes, and what it says behind the lines of these, which are whole."""
+    status, lines, _ = said(os.environ["QUORUMCTL"], "check", "--image", "disk", text=text)
+    lines = lines.splitlines()
+    same("nodes", lines[:3], ["node %d incarnation 0 clean mail empty" % node for node in (1, 2, 3)])
+    return status, lines[3:]
+
+
+def check_json(text):
+    """The status of `quorumctl check --json`, its findings and its networks."""
+    status, line, _ = said(os.environ["QUORUMCTL"], "check", "--image", "disk", "--json", text=text)
+    value = json.loads(line)
+    return status, value["findings"], value.get("networks")
+
+
 def links(text):
     """The status of a command that reads the text for its links, and what it says on standard error."""
     pathlib.Path("conf").write_text(text)
@@ -186,9 +202,12 @@ def links(text):
     return status, errors
 
 
+same("create", said(os.environ["QUORUMD"], "create", "--image", "disk", text=PCS)[:2], (0, "created nodes 3\n"))
 for name, text in ("pcs", PCS), ("crmsh", CRMSH), ("Proxmox", PROXMOX):
     same("settings of " + name, settings(text), (0, NETWORKS))
     same("links of " + name, links(text), (0, ""))
+    same("check of " + name, check(text), (0, NETWORKS))
+    same("check of %s as JSON" % name, check_json(text), (0, [], [line.split()[2:] for line in NETWORKS]))
     mixed = text.replace("198.51.100.", "2001:db8::")
     same("two families of " + name, settings(mixed), (0, [NETWORKS[0], NETWORKS[1].replace("198.51.100.", "2001:db8::")]))
     same("links of two families of " + name, links(mixed), (0, ""))
@@ -196,6 +215,10 @@ for name, text in ("pcs", PCS), ("crmsh", CRMSH), ("Proxmox", PROXMOX):
         wrong = text.replace(SECOND, place)
         same("settings of %s: %s" % (name, fault), settings(wrong), (1, ["warning: " + fault]))
         same("links of %s: %s" % (name, fault), links(wrong), (2, "quorumd: conf: %s\n" % fault))
+        same("check of %s: %s" % (name, fault), check(wrong), (0, ["warning: " + fault]))
+        same("check of %s as JSON: %s" % (name, fault), check_json(wrong), (0, [fault], None))
 one = "".join(line for line in PCS.splitlines(True) if "ring1_addr" not in line)
 same("one network", settings(one), (0, []))
 same("links of one network", links(one), (0, ""))
+same("check of one network", check(one), (0, []))
+same("check of one network as JSON", check_json(one), (0, [], None))

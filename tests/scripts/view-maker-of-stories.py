@@ -121,13 +121,14 @@ def stand_of(text):
 def decision_of(me, votes, enough, hellos, own, present, greatest):
     """What a node that knows this says, follows and makes once all is settled."""
     member = NamingMember(int(me), dict(enumerate(numbers_of(votes))), int(enough), LOOP)
+    member.stands = stand_of(own)._replace(keeps=False)
     for hello in hellos.split(";") if hellos != "-" else ():
         rank, hears, follows, able, stands = hello.split(":")
         member.on_hello(LATE, int(rank), said_of(hears, follows, able), None if stands == "-" else stand_of(stands))
     if present != "-":
         number, members = present.split(" ")
         member.view, member.installed = View(int(number), numbers_of(members)), 0
-    member.greatest, member.first_look, member.stands = plain_number(int(greatest)), 0, stand_of(own)._replace(keeps=False)
+    member.greatest, member.first_look = plain_number(int(greatest)), 0
     company = member.note(LATE)
     said = [yes(member.says.able), yes(member.stands.keeps), rank_text(member.says.follows), str(member.leader)]
     if member.leader != member.ident:
@@ -153,6 +154,6 @@ def rows_of(kind, least):
 
 
 lines = (TOP / "tests/program/qn_tests/stdin").read_text().splitlines()
-wrong = [*wrong_calls(rows_of("maker", 4900)), *wrong_names(rows_of("candidate", 200)), *wrong_decisions(rows_of("decision", 60))]
+wrong = [*wrong_calls(rows_of("maker", 4900)), *wrong_names(rows_of("candidate", 200)), *wrong_decisions(rows_of("decision", 72))]
 if wrong:
     sys.exit("\n".join(wrong[:20]))

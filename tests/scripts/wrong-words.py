@@ -55,6 +55,7 @@ ROWS = {
     "tests/edits/back": "- 2 help 2 2 0 text 2",
     "tests/edits/into": "2 2 help 2 2 2 2 2",
     "tests/hosts/containers": "2 2 2 2 2 - - 2",
+    "tests/hosts/handovers": "2 2 help 2 2 2 2 2",
     "tests/hosts/judge": "2 2 help 2 2 2 2 2",
     "tests/hosts/watchdog": "1 1 1 1 1 1 1 1",
     "tests/liars": "2 2 2 2 2 2 2 2",
@@ -62,6 +63,8 @@ ROWS = {
     "tests/machines/hypervisor": "2 2 help 2 - 2 2 2",
     "tests/machines/judge": "2 2 help 2 2 0 0 2",
     "tests/machines/machines": "2 2 2 2 2 2 2 2",
+    "tests/machines/quorums": "2 2 help 2 2 text text 2",
+    "tests/machines/relay": "2 2 help 2 2 2 2 2",
     "tests/make-vector-rows": "2 2 help 2 2 2 2 2",
     "tests/over-etcd": "1 1 1 1 1 1 1 1",
     "tests/over-nbd": "1 1 1 1 1 1 1 1",
@@ -70,7 +73,7 @@ ROWS = {
 # no words of an operator: what starts a program or the gate, what dpkg or a machine starts
 LEFT_OUT = {"bin/quorumd", "bin/quorumctl", "bench/qn_soak_nodes", "bench/qn_tests", ".ci/run", ".ci/daily", ".ci/tools", "debian/postinst", "debian/postrm", "debian/prerm", "debian/rules",
             "debian/tests/first-answer", "debian/tests/looks", "debian/tests/take-over", "tests/hosts/ask_arbiter", "tests/hosts/database",
-            "tests/machines/init"}
+            "tests/machines/held", "tests/machines/init"}
 
 
 def scripts():

@@ -12,6 +12,7 @@ use Rattle.qn_model.specs.World.{failed}
 use Rattle.qn_sector.specs.Reading.{header_in, mail_of, slot_of}
 use Rattle.qn_candidate.specs.Candidate.{heaviest}
 use Rattle.qn_member.specs.Maker.{ranks_that, with_ranks}
+use Rattle.qn_member.specs.Naming.{least_sure}
 use Rattle.qn_member.specs.NamingViews.{after_found, after_look, answer_at, view_found}
 use Rattle.qn_wire.specs.Packets.{packet_bytes}
 use Rattle.qn_wire.specs.Reading.{packet_of}
@@ -39,7 +40,7 @@ newest ▸ earlier = (newest, earlier)
 
 -- what the rows compute with
 unfoldable beside_steps : Bool
-unfolding node_steps heaviest log_from header_bytes_in mail_bytes slot_bytes header_in mail_of slot_of failed ranks_that with_ranks view_found after_found answer_at after_look choice_plan sends_plan disk_call done out_call outs_plan waits_after clocked greeted handled settled live_plan parted run_plan left_plan after_spot returned looked_first happens packet_bytes packet_of poll_bytes reply_bytes poll_of reply_of happens_beside beside_after AllMayHappenBeside
+unfolding node_steps heaviest log_from header_bytes_in mail_bytes slot_bytes header_in mail_of slot_of failed ranks_that with_ranks least_sure view_found after_found answer_at after_look choice_plan sends_plan disk_call done out_call outs_plan waits_after clocked greeted handled settled live_plan parted run_plan left_plan after_spot returned looked_first happens packet_bytes packet_of poll_bytes reply_bytes poll_of reply_of happens_beside beside_after AllMayHappenBeside
 beside_steps = true
 
 up_0_may : May up_0
@@ -113,6 +114,8 @@ hears_may =
 sees_may : May sees
 unfolding beside_steps
 sees_may =
+    (record { on = refl; asked = refl; waits = refl; answer = refl; spells = refl }, tt, record { hears = tt; spells = refl }, λ c. absurd (false≢true c)) ▸
+    (record { on = refl; asked = refl; waits = refl; answer = λ c. absurd (false≢true c); spells = refl }, tt, record { hears = λ c. absurd (false≢true c); spells = refl }, λ c. absurd (false≢true c)) ▸
     (record { on = refl; asked = refl; waits = refl; answer = tt; spells = refl }, tt, record { hears = tt; spells = refl }, λ c. absurd (false≢true c)) ▸
     (record { on = refl; asked = refl; waits = refl; answer = refl; spells = refl }, tt, record { hears = tt; spells = refl }, λ c. absurd (false≢true c)) ▸
     (record { on = refl; asked = refl; waits = refl; answer = tt; spells = refl }, tt, record { hears = tt; spells = refl }, λ c. absurd (false≢true c)) ▸
@@ -135,33 +138,31 @@ unfolding beside_steps
 first_view_may =
     (record { on = refl; asked = refl; waits = refl; answer = tt; spells = refl }, tt, record { hears = tt; spells = refl }, λ c. absurd (false≢true c)) ▸
     (record { on = refl; asked = refl; waits = refl; answer = tt; spells = refl }, tt, record { hears = tt; spells = refl }, λ c. absurd (false≢true c)) ▸
+    (record { on = refl; asked = refl; waits = refl; answer = tt; spells = refl }, tt, record { hears = tt; spells = refl }, λ c. absurd (false≢true c)) ▸
+    (record { on = refl; asked = refl; waits = refl; answer = λ ok. refl; spells = refl }, tt, record { hears = tt; spells = refl }, λ c. absurd (false≢true c)) ▸
+    ((refl, refl, refl), tt, tt, λ c. absurd (false≢true c)) ▸
+    (record { on = refl; asked = refl; waits = refl; answer = tt; spells = refl }, tt, record { hears = tt; spells = refl }, λ c. absurd (false≢true c)) ▸
     (record { on = refl; asked = refl; waits = refl; answer = refl; spells = refl }, tt, record { hears = tt; spells = refl }, λ c. absurd (false≢true c)) ▸
     (record { on = refl; asked = refl; waits = refl; answer = λ c. absurd (false≢true c); spells = refl }, tt, record { hears = λ c. absurd (false≢true c); spells = refl }, λ c. absurd (false≢true c)) ▸
+    (record { on = refl; asked = refl; waits = refl; answer = tt; spells = refl }, tt, record { hears = tt; spells = refl }, λ c. absurd (false≢true c)) ▸
+    (record { on = refl; asked = refl; waits = refl; answer = refl; spells = refl }, tt, record { hears = tt; spells = refl }, λ c. absurd (false≢true c)) ▸
+    (record { on = refl; asked = refl; waits = refl; answer = tt; spells = refl }, tt, record { hears = tt; spells = refl }, λ c. absurd (false≢true c)) ▸
+    (record { on = refl; asked = refl; waits = refl; answer = λ ok. refl; spells = refl }, tt, record { hears = tt; spells = refl }, λ c. absurd (false≢true c)) ▸
+    ((refl, refl, refl), tt, tt, λ c. absurd (false≢true c)) ▸
+    (record { on = refl; asked = refl; waits = refl; answer = refl; spells = refl }, tt, record { hears = tt; spells = refl }, λ c. absurd (false≢true c)) ▸
+    (record { on = refl; asked = refl; waits = refl; answer = tt; spells = refl }, tt, record { hears = tt; spells = refl }, λ c. absurd (false≢true c)) ▸
+    ((of_each_node _ refl refl, refl), refl, refl) ▸
     sees_may
 
 one_view_may : May one_view
 unfolding beside_steps
 one_view_may =
     (record { on = refl; asked = refl; waits = refl; answer = tt; spells = refl }, tt, record { hears = tt; spells = refl }, λ c. absurd (false≢true c)) ▸
-    (record { on = refl; asked = refl; waits = refl; answer = refl; spells = refl }, tt, record { hears = tt; spells = refl }, λ c. absurd (false≢true c)) ▸
-    (record { on = refl; asked = refl; waits = refl; answer = tt; spells = refl }, tt, record { hears = tt; spells = refl }, λ c. absurd (false≢true c)) ▸
-    (record { on = refl; asked = refl; waits = refl; answer = tt; spells = refl }, tt, record { hears = tt; spells = refl }, λ c. absurd (false≢true c)) ▸
-    (record { on = refl; asked = refl; waits = refl; answer = λ ok. refl; spells = refl }, tt, record { hears = tt; spells = refl }, λ c. absurd (false≢true c)) ▸
-    ((refl, refl, refl), tt, tt, λ c. absurd (false≢true c)) ▸
     (record { on = refl; asked = refl; waits = refl; answer = tt; spells = refl }, tt, record { hears = tt; spells = refl }, λ c. absurd (false≢true c)) ▸
     (record { on = refl; asked = refl; waits = refl; answer = refl; spells = refl }, tt, record { hears = tt; spells = refl }, λ c. absurd (false≢true c)) ▸
     (record { on = refl; asked = refl; waits = refl; answer = λ c. absurd (false≢true c); spells = refl }, tt, record { hears = λ c. absurd (false≢true c); spells = refl }, λ c. absurd (false≢true c)) ▸
     (record { on = refl; asked = refl; waits = refl; answer = tt; spells = refl }, tt, record { hears = tt; spells = refl }, λ c. absurd (false≢true c)) ▸
     (record { on = refl; asked = refl; waits = refl; answer = refl; spells = refl }, tt, record { hears = tt; spells = refl }, λ c. absurd (false≢true c)) ▸
-    (record { on = refl; asked = refl; waits = refl; answer = tt; spells = refl }, tt, record { hears = tt; spells = refl }, λ c. absurd (false≢true c)) ▸
-    (record { on = refl; asked = refl; waits = refl; answer = tt; spells = refl }, tt, record { hears = tt; spells = refl }, λ c. absurd (false≢true c)) ▸
-    (record { on = refl; asked = refl; waits = refl; answer = tt; spells = refl }, tt, record { hears = tt; spells = refl }, λ c. absurd (false≢true c)) ▸
-    (record { on = refl; asked = refl; waits = refl; answer = λ ok. refl; spells = refl }, tt, record { hears = tt; spells = refl }, λ c. absurd (false≢true c)) ▸
-    ((refl, refl, refl), tt, tt, λ c. absurd (false≢true c)) ▸
-    (record { on = refl; asked = refl; waits = refl; answer = tt; spells = refl }, tt, record { hears = tt; spells = refl }, λ c. absurd (false≢true c)) ▸
-    (record { on = refl; asked = refl; waits = refl; answer = refl; spells = refl }, tt, record { hears = tt; spells = refl }, λ c. absurd (false≢true c)) ▸
-    (record { on = refl; asked = refl; waits = refl; answer = tt; spells = refl }, tt, record { hears = tt; spells = refl }, λ c. absurd (false≢true c)) ▸
-    ((of_each_node _ refl refl, refl), refl, refl) ▸
     first_view_may
 
 misses_may : May misses
@@ -248,7 +249,7 @@ answered_0_may =
     (record { on = refl; asked = refl; waits = refl; answer = λ c. absurd (false≢true c); spells = refl }, tt, record { hears = λ c. (0, leb-true _ _ refl, refl); spells = refl }, λ c. absurd (false≢true c)) ▸
     (refl, tt) ▸
     (refl, refl) ▸
-    (refl, λ c. (25, leb-true _ _ refl, refl)) ▸
+    (refl, λ c. (23, leb-true _ _ refl, refl)) ▸
     polls_1_may
 
 answered_1_may : May answered_1
@@ -258,7 +259,7 @@ answered_1_may =
     (record { on = refl; asked = refl; waits = refl; answer = λ c. absurd (false≢true c); spells = refl }, tt, record { hears = λ c. (1, leb-true _ _ refl, refl); spells = refl }, λ c. absurd (false≢true c)) ▸
     (refl, tt) ▸
     (refl, refl) ▸
-    (refl, λ c. (28, leb-true _ _ refl, refl)) ▸
+    (refl, λ c. (26, leb-true _ _ refl, refl)) ▸
     answered_0_may
 
 first_together : IsQuorateHost (with_device 10) (named_view 0 1 3) (host_after (with_device 10) short_lease new_image one_view 0)

@@ -49,14 +49,14 @@ new_image sector =
 abbrev pub named_view : ℕ → ℕ → ℕ → View
 named_view rank number members = record { id = (rank + 1) * 2 ^ 56 + number; members = record { 0 = members } }
 
--- what a node says of itself that knows names: that alone
-abbrev knows_names : Standing
-knows_names = record { flags = 32; weight = 0 }
+-- what a node says of itself by its flags: 32 that it knows names, and 96 that it is able besides to lead with the votes of the device alone
+abbrev standing_of : ℕ → Standing
+standing_of flags = record { flags = flags; weight = 0 }
 
--- a Hello: whom the node hears, and whom it follows; a node that follows another or itself is able
-abbrev hello : ℕ → ℕ → Option ℕ → List ℕ
-hello from hears follows =
-    packet_bytes (packet.Heard (rank_of from) (record { hears = record { 0 = hears }; follows = option_map rank_of follows; able = is_some follows }) knows_names)
+-- a Hello: whom the node hears, whom it follows, and what it says of itself; a node that follows another or itself is able
+abbrev hello : ℕ → ℕ → Option ℕ → ℕ → List ℕ
+hello from hears follows flags =
+    packet_bytes (packet.Heard (rank_of from) (record { hears = record { 0 = hears }; follows = option_map rank_of follows; able = is_some follows }) (standing_of flags))
 
 abbrev announce : ℕ → View → List ℕ
 announce from seen = packet_bytes (packet.Announce (rank_of from) seen)
@@ -80,7 +80,7 @@ abbrev pub part_up_0 : List BesideHappening
 part_up_0 =
     Here (Returns 0 (call.Feed true))
     ∷ Here (Returns 0 (call.Now 0))
-    ∷ Here (Returns 0 (call.Send (rank_of 1) (hello 0 1 None) true))
+    ∷ Here (Returns 0 (call.Send (rank_of 1) (hello 0 1 None 32) true))
     ∷ Here (Returns 0 (call.Read (mail_place 0) no_mail true))
     ∷ Here (Lands 0)
     ∷ Here (Returns 0 (call.Feed true))
@@ -114,7 +114,7 @@ abbrev pub part_up_1 : List BesideHappening
 part_up_1 =
     Here (Returns 1 (call.Feed true))
     ∷ Here (Returns 1 (call.Now 0))
-    ∷ Here (Returns 1 (call.Send (rank_of 0) (hello 1 2 None) true))
+    ∷ Here (Returns 1 (call.Send (rank_of 0) (hello 1 2 None 32) true))
     ∷ Here (Returns 1 (call.Read (mail_place 1) no_mail true))
     ∷ Here (Lands 1)
     ∷ Here (Returns 1 (call.Feed true))
@@ -144,44 +144,58 @@ up_1 = part_up_1 ++ up_0
 abbrev pub part_hears : List BesideHappening
 part_hears =
     Here (Returns 0 (call.Now 0))
-    ∷ Here (Returns 0 (call.Receive (received.Packet (hello 1 2 None))))
+    ∷ Here (Returns 0 (call.Receive (received.Packet (hello 1 2 None 32))))
     ∷ Here (Returns 1 (call.Now 0))
-    ∷ Here (Returns 1 (call.Receive (received.Packet (hello 0 1 None))))
+    ∷ Here (Returns 1 (call.Receive (received.Packet (hello 0 1 None 32))))
     ∷ []
 
 abbrev pub hears : List BesideHappening
 hears = part_hears ++ up_1
 
--- and sees it at its next look
+-- the second one leans on the device, since no Hello named it yet; the first one, that its Hello names, is sure, and the second one follows it
 abbrev pub part_sees : List BesideHappening
 part_sees =
-    Here (Returns 1 (call.Feed true))
-    ∷ Here (Returns 1 (call.Now 1))
-    ∷ Here (Returns 1 (call.Send (rank_of 0) (hello 1 3 (Some 0)) true))
-    ∷ Here (Returns 1 (call.Read (mail_place 1) no_mail true))
-    ∷ Here (Lands 1)
-    ∷ Here (Returns 1 (call.Now 1))
-    ∷ Here (Returns 1 (call.Receive (received.Packet (hello 0 3 (Some 0)))))
+    Here (Returns 1 (call.Now 1))
+    ∷ Here (Returns 1 (call.Receive (received.Packet (hello 0 3 (Some 0) 32))))
     ∷ Here (Returns 0 (call.Feed true))
     ∷ Here (Returns 0 (call.Now 1))
-    ∷ Here (Returns 0 (call.Send (rank_of 1) (hello 0 3 (Some 0)) true))
+    ∷ Here (Returns 0 (call.Send (rank_of 1) (hello 0 3 (Some 0) 32) true))
     ∷ Here (Returns 0 (call.Read (mail_place 0) no_mail true))
     ∷ Here (Lands 0)
     ∷ Here (Returns 0 (call.Now 1))
-    ∷ Here (Returns 0 (call.Receive received.Nothing))
+    ∷ Here (Returns 0 (call.Receive (received.Packet (hello 1 3 (Some 1) 96))))
+    ∷ Here (Returns 1 (call.Feed true))
+    ∷ Here (Returns 1 (call.Now 1))
+    ∷ Here (Returns 1 (call.Send (rank_of 0) (hello 1 3 (Some 1) 96) true))
+    ∷ Here (Returns 1 (call.Read (mail_place 1) no_mail true))
+    ∷ Here (Lands 1)
+    ∷ Here (Returns 1 (call.Now 1))
+    ∷ Here (Returns 1 (call.Receive received.Nothing))
     ∷ PassesWith 1 [] 100
     ∷ []
 
 abbrev pub sees : List BesideHappening
 sees = part_sees ++ hears
 
--- the first node makes a view of both
+-- a loop later it says so, and the first node makes a view of both
 abbrev pub part_first_view : List BesideHappening
 part_first_view =
-    Here (Returns 0 (call.Send (rank_of 32) (poll 0 0 1 (named_view 0 1 3)) true))
+    Here (Returns 0 (call.Send (rank_of 1) (announce 0 (named_view 0 1 3)) true))
+    ∷ Here (Returns 0 (call.Send (rank_of 1) (hello 0 3 (Some 0) 32) true))
+    ∷ Here (Returns 0 (call.Send (rank_of 32) (poll 0 0 1 (named_view 0 1 3)) true))
+    ∷ Here (Returns 0 (call.Read (mail_place 0) no_mail true))
+    ∷ Here (Lands 0)
     ∷ Here (Returns 0 (call.Send (rank_of 1) (ask 0 1) true))
-    ∷ Here (Returns 0 (call.Now 1))
-    ∷ Here (Returns 0 (call.Receive (received.Packet (hello 1 3 (Some 0)))))
+    ∷ Here (Returns 0 (call.Now 2))
+    ∷ Here (Returns 0 (call.Receive (received.Packet (hello 1 3 (Some 0) 32))))
+    ∷ Here (Returns 1 (call.Feed true))
+    ∷ Here (Returns 1 (call.Now 2))
+    ∷ Here (Returns 1 (call.Send (rank_of 0) (hello 1 3 (Some 0) 32) true))
+    ∷ Here (Returns 1 (call.Read (mail_place 1) no_mail true))
+    ∷ Here (Lands 1)
+    ∷ Here (Returns 1 (call.Now 2))
+    ∷ Here (Returns 1 (call.Receive received.Nothing))
+    ∷ PassesWith 1 [] 100
     ∷ []
 
 abbrev pub first_view : List BesideHappening
@@ -190,26 +204,12 @@ first_view = part_first_view ++ sees
 -- and the second one takes it
 abbrev pub part_one_view : List BesideHappening
 part_one_view =
-    Here (Returns 1 (call.Feed true))
-    ∷ Here (Returns 1 (call.Now 2))
-    ∷ Here (Returns 1 (call.Send (rank_of 0) (hello 1 3 (Some 0)) true))
-    ∷ Here (Returns 1 (call.Send (rank_of 32) (poll 1 0 1 (named_view 0 1 3)) true))
-    ∷ Here (Returns 1 (call.Read (mail_place 1) no_mail true))
-    ∷ Here (Lands 1)
+    Here (Returns 1 (call.Send (rank_of 32) (poll 1 0 1 (named_view 0 1 3)) true))
     ∷ Here (Returns 1 (call.Send (rank_of 0) (ask 1 0) true))
     ∷ Here (Returns 1 (call.Now 2))
     ∷ Here (Returns 1 (call.Receive (received.Packet (announce 0 (named_view 0 1 3)))))
     ∷ Here (Returns 0 (call.Feed true))
     ∷ Here (Returns 0 (call.Now 2))
-    ∷ Here (Returns 0 (call.Send (rank_of 1) (announce 0 (named_view 0 1 3)) true))
-    ∷ Here (Returns 0 (call.Send (rank_of 1) (hello 0 3 (Some 0)) true))
-    ∷ Here (Returns 0 (call.Send (rank_of 32) (poll 0 1 1 (named_view 0 1 3)) true))
-    ∷ Here (Returns 0 (call.Read (mail_place 0) no_mail true))
-    ∷ Here (Lands 0)
-    ∷ Here (Returns 0 (call.Send (rank_of 1) (ask 0 1) true))
-    ∷ Here (Returns 0 (call.Now 2))
-    ∷ Here (Returns 0 (call.Receive received.Nothing))
-    ∷ PassesWith 1 [] 100
     ∷ []
 
 abbrev pub one_view : List BesideHappening
@@ -221,7 +221,7 @@ part_misses =
     Here (Returns 1 (call.Feed true))
     ∷ Here (Returns 1 (call.Now 6))
     ∷ Here (Returns 1 (call.Send (rank_of 0) (announce 1 (named_view 0 1 3)) true))
-    ∷ Here (Returns 1 (call.Send (rank_of 0) (hello 1 2 (Some 1)) true))
+    ∷ Here (Returns 1 (call.Send (rank_of 0) (hello 1 2 (Some 1) 96) true))
     ∷ Here (Returns 1 (call.Send (rank_of 32) (poll 1 1 1 (named_view 0 1 3)) true))
     ∷ Here (Returns 1 (call.Read (mail_place 1) no_mail true))
     ∷ Here (Lands 1)
@@ -231,8 +231,8 @@ part_misses =
     ∷ Here (Returns 0 (call.Feed true))
     ∷ Here (Returns 0 (call.Now 6))
     ∷ Here (Returns 0 (call.Send (rank_of 1) (announce 0 (named_view 0 1 3)) true))
-    ∷ Here (Returns 0 (call.Send (rank_of 1) (hello 0 1 (Some 0)) true))
-    ∷ Here (Returns 0 (call.Send (rank_of 32) (poll 0 2 1 (named_view 0 1 3)) true))
+    ∷ Here (Returns 0 (call.Send (rank_of 1) (hello 0 1 (Some 0) 96) true))
+    ∷ Here (Returns 0 (call.Send (rank_of 32) (poll 0 1 1 (named_view 0 1 3)) true))
     ∷ Here (Returns 0 (call.Read (mail_place 0) no_mail true))
     ∷ Here (Lands 0)
     ∷ Here (Returns 0 (call.Send (rank_of 1) (ask 0 1) true))
@@ -250,7 +250,7 @@ part_alone =
     Here (Returns 1 (call.Feed true))
     ∷ Here (Returns 1 (call.Now 7))
     ∷ Here (Returns 1 (call.Send (rank_of 0) (announce 1 (named_view 1 2 2)) true))
-    ∷ Here (Returns 1 (call.Send (rank_of 0) (hello 1 2 (Some 1)) true))
+    ∷ Here (Returns 1 (call.Send (rank_of 0) (hello 1 2 (Some 1) 96) true))
     ∷ Here (Returns 1 (call.Read (mail_place 1) no_mail true))
     ∷ Here (Lands 1)
     ∷ Here (Returns 1 (call.Now 7))
@@ -258,7 +258,7 @@ part_alone =
     ∷ Here (Returns 0 (call.Feed true))
     ∷ Here (Returns 0 (call.Now 7))
     ∷ Here (Returns 0 (call.Send (rank_of 1) (announce 0 (named_view 0 2 1)) true))
-    ∷ Here (Returns 0 (call.Send (rank_of 1) (hello 0 1 (Some 0)) true))
+    ∷ Here (Returns 0 (call.Send (rank_of 1) (hello 0 1 (Some 0) 96) true))
     ∷ Here (Returns 0 (call.Read (mail_place 0) no_mail true))
     ∷ Here (Lands 0)
     ∷ Here (Returns 0 (call.Now 7))
@@ -275,8 +275,8 @@ part_polls_0 =
     Here (Returns 0 (call.Feed true))
     ∷ Here (Returns 0 (call.Now 8))
     ∷ Here (Returns 0 (call.Send (rank_of 1) (announce 0 (named_view 0 2 1)) true))
-    ∷ Here (Returns 0 (call.Send (rank_of 1) (hello 0 1 (Some 0)) true))
-    ∷ Here (Returns 0 (call.Send (rank_of 32) (poll 0 3 2 (named_view 0 2 1)) true))
+    ∷ Here (Returns 0 (call.Send (rank_of 1) (hello 0 1 (Some 0) 96) true))
+    ∷ Here (Returns 0 (call.Send (rank_of 32) (poll 0 2 2 (named_view 0 2 1)) true))
     ∷ Here (Returns 0 (call.Read (mail_place 0) no_mail true))
     ∷ Here (Lands 0)
     ∷ Here (Returns 0 (call.Now 8))
@@ -293,7 +293,7 @@ part_polls_1 =
     Here (Returns 1 (call.Feed true))
     ∷ Here (Returns 1 (call.Now 8))
     ∷ Here (Returns 1 (call.Send (rank_of 0) (announce 1 (named_view 1 2 2)) true))
-    ∷ Here (Returns 1 (call.Send (rank_of 0) (hello 1 2 (Some 1)) true))
+    ∷ Here (Returns 1 (call.Send (rank_of 0) (hello 1 2 (Some 1) 96) true))
     ∷ Here (Returns 1 (call.Send (rank_of 32) (poll 1 2 2 (named_view 1 2 2)) true))
     ∷ Here (Returns 1 (call.Read (mail_place 1) no_mail true))
     ∷ Here (Lands 1)
@@ -308,10 +308,10 @@ polls_1 = part_polls_1 ++ polls_0
 abbrev pub part_answered_0 : List BesideHappening
 part_answered_0 =
     Here (Returns 0 (call.Now 8))
-    ∷ Here (Returns 0 (call.Receive (received.Packet (reply 0 3 2 true))))
-    ∷ ArbiterReturns (call.Send (rank_of 0) (reply 0 3 2 true) true)
+    ∷ Here (Returns 0 (call.Receive (received.Packet (reply 0 2 2 true))))
+    ∷ ArbiterReturns (call.Send (rank_of 0) (reply 0 2 2 true) true)
     ∷ ArbiterReturns (call.Now 22)
-    ∷ ArbiterReturns (call.Receive (received.Packet (poll 0 3 2 (named_view 0 2 1))))
+    ∷ ArbiterReturns (call.Receive (received.Packet (poll 0 2 2 (named_view 0 2 1))))
     ∷ []
 
 abbrev pub answered_0 : List BesideHappening

@@ -14,6 +14,7 @@ impl Cluster {
     ghost use Rattle.qn_model.specs.World.{World};
 
     /// The number of the rule that refuses an event whose rule looks at nodes alone.
+    #[inline(always)]
     pub fn refusal(&self, event: &Event, timing: &Timing) -> Option<u8>
         requires formed { is_well_formed self.now.settings event.now ≡ true }
         requires standing { IsStanding self.now }
@@ -46,6 +47,7 @@ impl Cluster {
 
     /// The step of an event that changes nodes alone. It runs out of memory only where a node sends a packet, and the
     /// cluster is then as it was.
+    #[inline(always)]
     pub fn step(&mut self, event: &Event, outs: &mut Outs) -> Result<(), NoMemory>
         requires ready { CanStep self.old event.now }
         requires none { outs.old ≡ [] }

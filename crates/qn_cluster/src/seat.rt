@@ -79,6 +79,7 @@ impl Seat {
     }
 
     /// The running node is handed an entry at the present tick of its clock.
+    #[inline(always)]
     pub(crate) fn hand(&mut self, time: u64, what: What, outs: &mut Outs)
         requires { 0 < steps_of self.old.node }
         ensures { HandedSeat self.old self.new time what outs.new }

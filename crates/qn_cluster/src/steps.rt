@@ -51,6 +51,7 @@ pub trait Steps: HasNodes {
             → into.new ≡ report_of Self.kind self.now event.now d };
 
     /// Whether an event is allowed, else the rule that refuses it.
+    #[inline(always)]
     final fn allowed(&self, event: &Self::Event) -> Result<(), Rule>
         requires formed { IsFormed Self.kind self.now event.now }
         requires standing { IsStanding Self.kind self.now }
@@ -67,6 +68,7 @@ pub trait Steps: HasNodes {
 
     /// The step of an event of which it is known that no rule refuses it, with the outputs that it gave in place of `outs`;
     /// or it finds no memory, and the world is as it was. What `outs` holds then is not said.
+    #[inline(always)]
     final fn apply_allowed(&mut self, event: &Self::Event, outs: &mut Outs) -> Result<(), NoMemory>
         requires formed { IsFormed Self.kind self.old event.now }
         requires standing { IsStanding Self.kind self.old }

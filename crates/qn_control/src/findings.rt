@@ -4,6 +4,9 @@ use qn_base::NodeId;
 use qn_exchange::ShortFeedDelay;
 use std::fmt;
 
+/// For how many milliseconds nobody may read an image in an etcd cluster whose leader is lost (IMAGE.md): the longest that was seen is 8.7 s.
+pub const LONGEST_ELECTION: u64 = 9000;
+
 /// What is wrong with an image, or does not fit a corosync.conf.
 #[derive(Clone, Copy, Drop)]
 pub enum Finding {
@@ -24,6 +27,10 @@ pub enum Finding {
     /// The feed delay of the header is so short that a node which stalls for less than 500 milliseconds is not fed.
     ShortFeedDelay {
         short: ShortFeedDelay,
+    },
+    /// A loss of the leader of its cluster may last longer than the watchdog's time, in milliseconds, so that each node is reset.
+    BelowElection {
+        watchdog: u64,
     },
     /// The sector is no slot.
     NotSlot {
@@ -67,6 +74,7 @@ impl fmt::Display for Finding {
                 write!(f, "a take-over has no bound: {reason}")
             }
             Finding::ShortFeedDelay { short } => write!(f, "{short}"),
+            Finding::BelowElection { watchdog } => below_election(f, *watchdog),
             Finding::NotSlot { sector } => of_sector(f, *sector, " is no slot"),
             Finding::NotMailbox { sector } => of_sector(f, *sector, " is no mailbox"),
             Finding::NotAscending { sector, id } => {
@@ -89,6 +97,15 @@ impl fmt::Display for Finding {
             }
         }
     }
+}
+
+/// Says that a watchdog's time is shorter than an election, and what to do.
+fn below_election<W: fmt::Write>(f: &mut fmt::Formatter<W>, watchdog: u64) -> fmt::Result {
+    write!(
+        f,
+        "an election of etcd may take {LONGEST_ELECTION} ms, and the watchdog's time is {watchdog} ms: each node is reset then. "
+    )?;
+    f.write_str("Give each member --pre-vote, or the image longer times")
 }
 
 /// Writes the number of a sector, and what is said of it.

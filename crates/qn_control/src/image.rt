@@ -1,7 +1,7 @@
 //! An image, looked at sector by sector.
 ghost use Rattle.std.specs.Prelude.{◌<◌};
 
-use crate::findings::Finding;
+use crate::findings::{Finding, LONGEST_ELECTION};
 use crate::times::{slowest_disk, unbounded_on};
 use qn_base::{NodeId, Rank};
 use qn_exchange::ShortFeedDelay;
@@ -19,6 +19,9 @@ pub trait Sectors {
 
     /// How many bytes stand behind so many sectors.
     fn bytes_behind(&self, sectors: u64) -> u64;
+
+    /// Whether they lie in a cluster of which nobody reads while its members elect a leader.
+    fn have_elections(&self) -> bool;
 }
 
 /// What an image says of a node, as far as its sectors can be read and are what they should be.
@@ -73,6 +76,10 @@ fn look_at_header<S: Sectors>(sectors: &mut S, seen: &mut ImageSeen) -> Result<(
     }
     if let Some((_, _, timing)) = seen.header {
         look_at_times(&timing, seen)?;
+        if sectors.have_elections() && timing.watchdog < LONGEST_ELECTION {
+            let watchdog = timing.watchdog;
+            seen.findings.push(Finding::BelowElection { watchdog })?;
+        }
     }
     Ok(())
 }

@@ -1,7 +1,9 @@
 //! What an image says, as JSON (RFC 8259). Names and findings have no characters that JSON escapes.
 use crate::image::{ImageSeen, NodeSeen};
+use crate::networks::NetworksSeen;
 use crate::text::Text;
 use qn_base::NodeId;
+use qn_links::Links;
 use qn_model::{Mail, Slot, Timing, timing_safe};
 use std::alloc::{AllocError, Global};
 
@@ -13,15 +15,27 @@ pub fn list_json(alloc: Global, nodes: &[NodeSeen]) -> Result<String, AllocError
     json.finish()
 }
 
-/// One line: an object with the header, the nodes and the findings.
-pub fn check_json(alloc: Global, seen: &ImageSeen) -> Result<String, AllocError> {
+/// One line: an object with the header, the nodes and the findings, and the addresses of the nodes on each network where the text has two. Why these
+/// are not known is the last of the findings.
+pub fn check_json(
+    alloc: Global,
+    seen: &ImageSeen,
+    networks: &NetworksSeen,
+) -> Result<String, AllocError> {
     let mut json = Text::new(alloc);
-    json.add("{\"findings\":");
-    add_findings(&mut json, seen);
-    json.add(",\"header\":");
+    json.add("{\"findings\":[");
+    add_findings(&mut json, seen, networks);
+    json.add("],\"header\":");
     match &seen.header {
         Some((version, _, timing)) => add_header(&mut json, *version, timing),
         None => json.add("null"),
+    }
+    if let NetworksSeen::Two { first, second } = networks {
+        json.add(",\"networks\":[");
+        add_network(&mut json, first);
+        json.add(",");
+        add_network(&mut json, second);
+        json.add("]");
     }
     json.add(",\"nodes\":");
     add_nodes(&mut json, seen.nodes.as_slice());
@@ -29,16 +43,39 @@ pub fn check_json(alloc: Global, seen: &ImageSeen) -> Result<String, AllocError>
     json.finish()
 }
 
-/// The array of the findings, as texts.
-fn add_findings(json: &mut Text, seen: &ImageSeen) {
-    let mut before = "[\"";
+/// The findings, as texts, and why the networks are not known.
+fn add_findings(json: &mut Text, seen: &ImageSeen, networks: &NetworksSeen) {
+    let mut before = "";
     for finding in seen.findings.as_slice() {
         json.add(before);
+        json.add("\"");
         json.add_value(finding);
         json.add("\"");
-        before = ",\"";
+        before = ",";
     }
-    json.add(if seen.findings.is_empty() { "[]" } else { "]" });
+    if let NetworksSeen::Unknown { reason } = networks {
+        json.add(before);
+        json.add_string(reason.as_str());
+    }
+}
+
+/// The array of the addresses of a network, in the order of the ids.
+fn add_network(json: &mut Text, links: &Links) {
+    let mut before = "[";
+    for link in links {
+        if let Some(address) = link {
+            json.add(before);
+            json.add("\"");
+            json.add_value(address);
+            json.add("\"");
+            before = ",";
+        }
+    }
+    json.add(if links.iter().all(Option::is_none) {
+        "[]"
+    } else {
+        "]"
+    });
 }
 
 fn add_header(json: &mut Text, version: u16, timing: &Timing) {

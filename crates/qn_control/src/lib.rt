@@ -47,7 +47,7 @@ pub use history::History;
 pub use image::{ImageSeen, NodeSeen, Sectors, look_at_image};
 pub use image_json::{check_json, list_json};
 pub use image_lines::{finding_lines, image_lines_beside, node_lines};
-pub use networks::{NetworksTold, networks_told};
+pub use networks::{NetworksSeen, look_at_networks, network_lines};
 pub use node_concerns::{NodeConcern, node_concerns_of};
 pub use pairs::{Pair, Place, pairs_of};
 pub use text_concerns::{TextConcern, has_byte_order_mark, text_concerns_of};

@@ -58,3 +58,34 @@ front_after a b c first second (Err e) whole part =
       parts = ap (λ l. first ++ l) part.parts ∙ sym (append_assoc first part.front part.rest);
       adds = Appends-trans a b c first part.front whole part.adds;
     }
+
+-- what was kept first, and read then
+pub kept_before : (a b c : Option (List ℕ)) (bytes : List ℕ) → Keeps a b → Consumes b c bytes → Consumes a c bytes
+kept_before None b c bytes kept takes = tt
+kept_before (Some x) None c bytes kept takes = absurd kept
+kept_before (Some x) (Some y) None bytes kept takes = absurd takes
+kept_before (Some x) (Some y) (Some z) bytes kept takes = sym kept ∙ takes
+
+-- what was written first, and kept then
+pub kept_after : (a b c : Option (List ℕ)) (bytes : List ℕ) → Appends a b bytes → Keeps b c → Appends a c bytes
+kept_after None b c bytes adds kept = tt
+kept_after (Some x) None c bytes adds kept = absurd adds
+kept_after (Some x) (Some y) None bytes adds kept = absurd kept
+kept_after (Some x) (Some y) (Some z) bytes adds kept = kept ∙ adds
+
+-- the whole text was written, and nothing after it
+pub all_sent_then : (a b c : Option (List ℕ)) (text : List ℕ) → Appends a b text → Keeps b c → SendsFront a c text
+all_sent_then a b c text adds kept = all_sent a c text (kept_after a b c text adds kept)
+
+-- what was read after others were kept is no answer
+pub none_before : (a b c : Option (List ℕ)) → Keeps a b → ReadsNoAnswer b c → ReadsNoAnswer a c
+none_before a b c kept reads = record { bytes = reads.bytes; takes = kept_before a b c reads.bytes kept reads.takes; none = reads.none }
+
+-- nothing was read of what was kept
+pub none_of_kept : (a b : Option (List ℕ)) → Keeps a b → ((body : List ℕ) → IsAnswer [] body → ⊥) → ReadsNoAnswer a b
+none_of_kept a b kept none = is_none a b [] (none_taken a b kept) none
+  where
+    none_taken : (a b : Option (List ℕ)) → Keeps a b → Consumes a b []
+    none_taken None b kept = tt
+    none_taken (Some x) None kept = absurd kept
+    none_taken (Some x) (Some y) kept = sym kept

@@ -1,2 +1,3 @@
 mod Answering
+mod Asking
 pub mod Lines

@@ -1,4 +1,5 @@
 pub mod Clients
+pub mod Etcd
 pub mod Exchanges
 pub mod Feeds
 pub mod Halts

@@ -1,14 +1,14 @@
 //! One request to a member of an etcd cluster, and its answer.
 ghost use Rattle.std.specs.Prelude.{◌≡◌, ◌≤◌, IfOk, OnOk, OnErr, length};
-ghost use Rattle.std.specs.Io.KnownBytes.{Appends, Consumes};
+ghost use Rattle.std.specs.Io.KnownBytes.{Appends, Consumes, Keeps};
 ghost use Rattle.qn_etcd.specs.Heads.{IsWhole};
 ghost use Rattle.qn_exchange.specs.Exchanges.{ReadsAnswer, ReadsNoAnswer};
 ghost use Rattle.qn_exchange.specs.Writes.{SendsFront};
 
-use crate::again::{read_again, write_whole};
+use crate::line::Line;
 use arrayvec::ArrayVec;
 use qn_etcd::{Head, head_of};
-use std::io::{self, ErrorKind, Read, Write};
+use std::io::{self, ErrorKind};
 
 /// How many bytes an answer has at most.
 pub const ANSWER: usize = 8192;
@@ -21,24 +21,22 @@ const OK: u16 = 200;
 
 /// Sends a request and reads the answer: it is done only where the whole request was sent and what was read is an answer of status 200, all of
 /// it and nothing after it, whose body is this text. Else a part of the request was sent, or all of it and what was read is no such answer of up
-/// to 8192 bytes: the connection is of no more use then.
-pub fn exchange<'a, W: Write, R: Read>(
+/// to 8192 bytes: the line is of no more use then.
+pub fn exchange<'a, L: Line>(
     request: &[u8],
-    writer: &mut W,
-    reader: &mut R,
+    line: &mut L,
     answer: &'a mut ArrayVec<u8, ANSWER>,
 ) -> io::Result<&'a str>
-    ensures sent { OnOk result
-        (Appends (W.contents writer.old) (W.contents writer.new) request.now) }
+    ensures sent { OnOk result (Appends (L.written line.old) (L.written line.new) request.now) }
     ensures answered { IfOk result (λ body.
-        ReadsAnswer (R.remaining reader.old) (R.remaining reader.new) body.now) }
+        ReadsAnswer (L.unread line.old) (L.unread line.new) body.now) }
     ensures unsent { OnErr result
-        (SendsFront (W.contents writer.old) (W.contents writer.new) request.now) }
+        (SendsFront (L.written line.old) (L.written line.new) request.now) }
     ensures unanswered { OnErr result
-        (ReadsNoAnswer (R.remaining reader.old) (R.remaining reader.new)) }
+        (ReadsNoAnswer (L.unread line.old) (L.unread line.new)) }
 {
-    write_whole(writer, request)?;
-    let head = read_answer(reader, answer)?;
+    line.send(request)?;
+    let head = read_answer(line, answer)?;
     if head.code != OK {
         return Err(io::Error::other("the cluster could not do it"));
     }
@@ -50,17 +48,17 @@ pub fn exchange<'a, W: Write, R: Read>(
 }
 
 /// Empties `answer` and reads an answer into it to its end, and nothing after it: what its head says.
-fn read_answer<R: Read>(reader: &mut R, answer: &mut ArrayVec<u8, ANSWER>) -> io::Result<Head>
+fn read_answer<L: Line>(line: &mut L, answer: &mut ArrayVec<u8, ANSWER>) -> io::Result<Head>
     ensures within { IfOk result (λ head. head.body ≤ length answer.new.items) }
-    ensures taken { OnOk result
-        (Consumes (R.remaining reader.old) (R.remaining reader.new) answer.new.items) }
+    ensures taken { OnOk result (Consumes (L.unread line.old) (L.unread line.new) answer.new.items) }
     ensures whole { IfOk result (λ head. IsWhole answer.new.items head) }
-    ensures none { OnErr result (ReadsNoAnswer (R.remaining reader.old) (R.remaining reader.new)) }
+    ensures none { OnErr result (ReadsNoAnswer (L.unread line.old) (L.unread line.new)) }
+    ensures left { Keeps (L.written line.old) (L.written line.new) }
 {
     answer.clear();
     'parts: for _ in 0..ANSWER {
         let mut part = [0; PART];
-        let more = read_again(reader, &mut part)?;
+        let more = line.read_some(&mut part)?;
         if more == 0 {
             return Err(io::Error::new(ErrorKind::UnexpectedEof, "the answer ends early"));
         }

@@ -8,6 +8,7 @@
 
 mod again;
 mod agent_exchange;
+mod etcd_client;
 mod etcd_exchange;
 mod feeding;
 mod halting;
@@ -18,12 +19,13 @@ mod order;
 mod watchdog_time;
 
 pub use again::{TRIES, read_again, write_again, write_whole};
-pub use agent_exchange::ask_over;
+pub use agent_exchange::{ask_agent, ask_over};
+pub use etcd_client::{EtcdClient, MOST_HOST, SectorRead};
 pub use etcd_exchange::{ANSWER, exchange, strange};
 pub use feeding::{ShortFeedDelay, feed_limit, feed_once};
 pub use halting::put_halt;
-pub use line::{Ends, Line};
+pub use line::{Ends, Line, Spent};
 pub use nbd_client::{MOST_PLACE, NbdClient, Stride};
 pub use nbd_exchange::{Request, ask_server};
-pub use order::Order;
+pub use order::{Obeyed, Order, put_order};
 pub use watchdog_time::{is_time_safe, seconds_of};

@@ -1,4 +1,11 @@
 //! What a resource is told to do, and how.
+ghost use Rattle.std.specs.Prelude.{◌≡◌, IfOk, OnOk, OnErr};
+ghost use Rattle.std.specs.Io.KnownBytes.{Appends};
+ghost use Rattle.qn_exchange.specs.Orders.{file_word};
+ghost use Rattle.qn_exchange.specs.Writes.{SendsFront};
+
+use crate::again::write_whole;
+use std::io::{self, Write};
 
 /// What a resource is told to do.
 #[derive(Clone, Copy, PartialEq, Eq)]
@@ -12,7 +19,7 @@ impl Order {
     ghost use Rattle.qn_exchange.specs.Orders.{file_word, agent_line};
 
     /// What the file of a resource begins with after it.
-    pub fn file_word(self) -> &'static [u8]
+    fn file_word(self) -> &'static [u8]
         ensures { result.now ≡ file_word self }
     {
         match self {
@@ -30,4 +37,33 @@ impl Order {
             Order::Stop => b"stop\n",
         }
     }
+}
+
+/// That an order was obeyed. Nothing but the exchange with an agent and the write to a file makes one.
+#[derive(Drop)]
+pub struct Obeyed {
+    pub order: Order,
+    _made: (),
+}
+
+impl Obeyed {
+    ghost use Rattle.std.specs.Prelude.{◌≡◌};
+
+    /// Of that order.
+    pub(crate) fn of(order: Order) -> Obeyed
+        ensures { result.order ≡ order }
+    {
+        Obeyed { order, _made: () }
+    }
+}
+
+/// Writes the word of an order to the file of a resource.
+pub fn put_order<W: Write>(order: Order, writer: &mut W) -> io::Result<Obeyed>
+    ensures put { OnOk result (Appends (W.contents writer.old) (W.contents writer.new) (file_word order)) }
+    ensures unput { OnErr result
+        (SendsFront (W.contents writer.old) (W.contents writer.new) (file_word order)) }
+    ensures obeyed { IfOk result (λ obeyed. obeyed.order ≡ order) }
+{
+    write_whole(writer, order.file_word())?;
+    Ok(Obeyed::of(order))
 }

@@ -1,12 +1,16 @@
 //! The journal of a running node.
+ghost use Rattle.std.specs.Prelude.{◌≡◌, List, true};
 ghost use Rattle.qn_io.specs.Receives.{FitsPacket};
+ghost use Rattle.qn_live.specs.Machine.{Stands};
+ghost use Rattle.qn_model.specs.Log.{Line};
+ghost use Rattle.qn_model.specs.Holding.{holds};
 
 use crate::arbiter::ArbiterNews;
 use crate::ending::end_text;
 use crate::group_file::group_of_file;
 use crate::mail::{MailNews, MailState, Mailbox};
 use crate::node_names::NodeNames;
-use crate::status_text::{Counts, NAMES, Shown, status_text};
+use crate::status::{NAMES, Seen, status_of};
 use qn_base::Rank;
 use qn_event::{EventLine, Moment};
 use qn_io::Got;
@@ -19,6 +23,7 @@ use qn_notice::{Event, Observer};
 use qn_polls::get_reply;
 use qn_safety::{Lease, Poll};
 use qn_sector::{get_header, get_mail, mail_sector};
+use qn_shown::Counts;
 use qn_told::{
     device_answered, device_silent, ended, event_line, feeds_failed, image_back, image_lost,
     mail_damaged, mail_failed, mail_told, network_back, network_lost, packets_refused, peer_lost,
@@ -352,7 +357,7 @@ impl<'a, R: Files<File = File> + Clock + Eprint> Journal<'a, R> {
             return;
         }
         let standing = shown_standing(run);
-        let text = status_text(&Shown {
+        let text = status_of(&Seen {
             at: self.lines.moment(self.rt),
             pid: self.pid,
             nodes: &run.settings().nodes,
@@ -375,7 +380,10 @@ impl<'a, R: Files<File = File> + Clock + Eprint> Journal<'a, R> {
             },
             end,
         });
-        self.put_status(text.as_slice());
+        match text {
+            Some(text) => self.put_status(text.as_slice()),
+            None => self.unwritten = self.unwritten.saturating_add(1),
+        }
     }
 
     /// Puts the text of a status into its file.
@@ -440,7 +448,13 @@ fn timeout_of(run: &NodeRun) -> u64 {
 }
 
 /// Where a node stands, as a status says it: one that has ended counts no votes, as a node that is off.
-fn shown_standing(run: &NodeRun) -> Standing {
+#[tactic(auto, unfolding(qn_model::specs::Holding::holds))]
+fn shown_standing(run: &NodeRun) -> Standing
+    ensures { (log : List Line)
+        → Stands run.now log
+        → result.holds ≡ true
+        → holds log ≡ true }
+{
     let standing = run.standing();
     let me = run.rank();
     if !matches!(standing.phase, Phase::Gone) || usize::from(me.0) >= run.settings().nodes.len() {

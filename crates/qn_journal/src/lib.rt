@@ -2,7 +2,8 @@
 //! FORMATS.md, and one object of JSON in a file that is replaced. It is the edge: the system's clock, and files. What is told of
 //! an entry is decided by `qn_notice`, of peers, images, the arbiter, what happens often and what the others are told by `qn_news`, and the bytes of each line by `qn_told`.
 //!
-//! Promises: each call ends, takes no memory from an allocator, and fails nowhere. No clause says what a file or standard error takes.
+//! Promises: the text of a status is that of a value which shows where the node stands, whether it holds among it (`specs/Statuses`). Each call
+//! ends, takes no memory from an allocator, and fails nowhere. No clause says what a file or standard error takes.
 #![tactic(auto)]
 
 mod arbiter;
@@ -11,7 +12,7 @@ mod group_file;
 mod journal;
 mod mail;
 mod node_names;
-mod status_text;
+mod status;
 mod text;
 
 pub use journal::Journal;

@@ -28,6 +28,7 @@ use Rattle.qn_model.specs.World.{failed}
 use Rattle.qn_sector.specs.Reading.{header_in, mail_of, slot_of}
 use Rattle.qn_candidate.specs.Candidate.{heaviest}
 use Rattle.qn_member.specs.Maker.{ranks_that, with_ranks}
+use Rattle.qn_member.specs.Naming.{least_sure}
 use Rattle.qn_member.specs.NamingViews.{after_found, after_look, answer_at as answer_by_name, view_found}
 use Rattle.qn_live.specs.declared.live_end.LiveEnd.TheVariants as end
 use Rattle.qn_live.specs.Choosing.{choice_plan}
@@ -80,5 +81,5 @@ starts_in_seven_turns : Follows (live_plan one_node 0 false None None 7)
       end = turns_end one_node 0 (log_of one_node 0 seven_entries);
       log = log_of one_node 0 seven_entries;
     })
-unfolding op_out ask_place ask_tick begins_clean slot_number claimed timing view install votes answer_at present_view view_tick is_released expected_votes device_yes phase holds stop_due may_stop told out_time slot_read_since reset_since least_from unmet mail_tick wanted_with_delay moment acts outs_at with_entry log_from header_bytes_in mail_bytes slot_bytes header_in mail_of slot_of failed view_found after_found answer_by_name after_look heaviest ranks_that with_ranks choice_plan sends_plan disk_call done out_call outs_plan waits_after clocked greeted handled parted settled live_plan run_plan
+unfolding op_out ask_place ask_tick begins_clean slot_number claimed timing view install votes answer_at present_view view_tick is_released expected_votes device_yes phase holds stop_due may_stop told out_time slot_read_since reset_since least_from unmet mail_tick wanted_with_delay moment acts outs_at with_entry log_from header_bytes_in mail_bytes slot_bytes header_in mail_of slot_of failed view_found after_found answer_by_name after_look heaviest ranks_that with_ranks least_sure choice_plan sends_plan disk_call done out_call outs_plan waits_after clocked greeted handled parted settled live_plan run_plan
 starts_in_seven_turns = (refl, (refl, (refl, (refl, (refl, (refl, (refl, (refl, (refl, (refl, (refl, (refl, (refl, (refl, (refl, (refl, (refl, (refl, (refl, (refl, refl))))))))))))))))))))

@@ -1,7 +1,7 @@
 //! The agent of a resource: a program behind a Unix stream socket, which starts and stops it.
 use crate::deadline::{Deadline, is_late};
 use arrayvec::ArrayString;
-use qn_exchange::{Order, ask_over};
+use qn_exchange::{Line, Obeyed, Order, ask_agent, read_again, write_whole};
 use std::io::{self, ErrorKind, Read};
 use std::net::Net;
 use std::os::unix::net::UnixStream;
@@ -20,6 +20,8 @@ pub(crate) struct Agent {
 }
 
 impl Agent {
+    ghost use Rattle.std.specs.Prelude.{◌≡◌, IfOk};
+
     /// The agent behind the socket of that path, which is not looked at yet.
     pub(crate) fn new(path: &str) -> io::Result<Agent> {
         let mut kept = ArrayString::new();
@@ -36,41 +38,57 @@ impl Agent {
 
     /// Sends it the line of the order on a connection of its own and waits for the answer. It is done only where the answer
     /// is the line `ok` and comes within 20 seconds.
-    pub(crate) fn ask<R: Net + Clock>(&self, rt: &R, order: Order) -> io::Result<()> {
+    pub(crate) fn ask<R: Net + Clock>(&self, rt: &R, order: Order) -> io::Result<Obeyed>
+        ensures { IfOk result (λ obeyed. obeyed.order ≡ order) }
+    {
         let end = Deadline::after(rt, LIMIT)?;
         let stream = UnixStream::connect(rt, self.path.as_str())?;
-        let mut answers = Answers {
-            stream: &stream,
+        let line = AgentLine {
+            stream,
             clock: rt,
             end,
         };
-        ask_over(order, &mut &stream, &mut answers)?;
+        let (_line, obeyed) = ask_agent(order, line)?;
         match end.left(rt)? {
-            Some(_) => Ok(()),
+            Some(_) => Ok(obeyed),
             None => Err(late()),
         }
     }
 }
 
-/// A connection that is read up to a moment of the clock.
+/// A connection to an agent that is read up to a moment of the clock. It tells none of its bytes.
 #[derive(Drop)]
-struct Answers<'a, C: Clock> {
-    stream: &'a UnixStream,
+struct AgentLine<'a, C: Clock> {
+    stream: UnixStream,
     clock: &'a C,
     end: Deadline,
 }
 
-impl<'a, C: Clock> Read for Answers<'a, C> {
+impl<'a, C: Clock> Read for AgentLine<'a, C> {
     fn read(&mut self, buf: &mut [u8]) -> io::Result<usize> {
         let Some(left) = self.end.left(self.clock)? else {
             return Err(late());
         };
         self.stream.set_read_timeout(Some(left))?;
-        let mut stream = self.stream;
+        let mut stream = &self.stream;
         match stream.read(buf) {
             Err(error) if is_late(&error) => Err(late()),
             done => done,
         }
+    }
+}
+
+impl<'a, C: Clock> Line for AgentLine<'a, C> {
+    fn send(&mut self, from: &[u8]) -> io::Result<()> {
+        write_whole(&mut &self.stream, from)
+    }
+
+    fn fill(&mut self, into: &mut [u8]) -> io::Result<()> {
+        self.read_exact(into)
+    }
+
+    fn read_some(&mut self, into: &mut [u8]) -> io::Result<usize> {
+        read_again(self, into)
     }
 }
 

@@ -146,6 +146,13 @@ pub(crate) struct TimedLine<'a, C: Clock> {
     end: Deadline,
 }
 
+impl<'a, C: Net<Stream = TcpStream> + Clock> TimedLine<'a, C> {
+    /// A connection of its own to a server up to that moment.
+    pub(crate) fn open(rt: &'a C, at: ServerAt<'_>, end: Deadline) -> io::Result<TimedLine<'a, C>> {
+        Ok(TimedLine::new(Connection::open(rt, at, end)?, rt, end))
+    }
+}
+
 impl<'a, C: Clock> TimedLine<'a, C> {
     /// The connection up to that moment.
     pub(crate) fn new(connection: Connection, clock: &'a C, end: Deadline) -> TimedLine<'a, C> {
@@ -164,5 +171,9 @@ impl<'a, C: Clock> Line for TimedLine<'a, C> {
 
     fn fill(&mut self, into: &mut [u8]) -> io::Result<()> {
         self.connection.until(self.clock, self.end).read_exact(into)
+    }
+
+    fn read_some(&mut self, into: &mut [u8]) -> io::Result<usize> {
+        read_again(&mut self.connection.until(self.clock, self.end), into)
     }
 }

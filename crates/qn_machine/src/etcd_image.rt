@@ -1,22 +1,17 @@
 //! An image in an etcd cluster: each sector a key.
-ghost use Rattle.std.specs.Prelude.{◌<◌};
 
-use crate::connection::Connection;
+use crate::connection::{Connection, TimedLine};
 use crate::etcd_word::EtcdAt;
 use crate::image::Opener;
 use crate::image_word::ServerAt;
 use crate::server_times::ServerTimes;
 use crate::start_ids::StartIds;
-use arrayvec::{ArrayString, ArrayVec};
+use arrayvec::ArrayString;
 use qn_base::Rank;
-use qn_etcd::{
-    AnswerFault, Boot, Entry, MOST_PREFIX, ReadAnswer, WriteAnswer, Writer, holder_request,
-    open_request, opening_revision, post, read_answer, read_request, release_request, sector_key,
-    token_of, write_answer, write_request, writer_key,
-};
-use qn_exchange::{ANSWER, exchange, strange};
+use qn_etcd::{Boot, ReadAnswer, Writer, opening_revision, token_of};
+use qn_exchange::{EtcdClient, SectorRead};
 use qn_io::SECTOR;
-use std::alloc::{AllocError, Global};
+use std::alloc::Global;
 use std::fs::File;
 use std::io::{self, ErrorKind};
 use std::net::{Net, SocketAddr, TcpStream};
@@ -26,19 +21,13 @@ use std::time::Clock;
 /// The most bytes of the word of an image in a cluster.
 const WORD: usize = 256;
 
-/// The most bytes of an address and a port as they stand in it.
-const HOST: usize = 128;
-
-/// An image in an etcd cluster. Each request goes to a member over a connection of its own, so that what came of an earlier request is never
-/// taken for the answer.
+/// An image in an etcd cluster. Each request goes to a member over a connection of its own, which the client keeps, so that what came of an
+/// earlier request is never taken for the answer.
 #[derive(Drop)]
 pub(crate) struct EtcdImage {
-    alloc: Global,
     word: ArrayString<WORD>,
     address: SocketAddr,
-    host: ArrayString<HOST>,
-    prefix: ArrayString<MOST_PREFIX>,
-    writer: Writer,
+    client: EtcdClient,
     times: ServerTimes,
 }
 
@@ -65,17 +54,19 @@ impl EtcdImage {
         opener: Opener,
     ) -> io::Result<EtcdImage> {
         let mut image = EtcdImage {
-            alloc,
             word: ArrayString::new(),
             address: at.address,
-            host: ArrayString::new(),
-            prefix: ArrayString::new(),
-            writer: Writer::Command(None),
+            client: EtcdClient {
+                alloc,
+                host: ArrayString::new(),
+                prefix: ArrayString::new(),
+                writer: Writer::Command(None),
+            },
             times: ServerTimes::of(opener),
         };
         let fits = image.word.try_push_str(word).is_ok()
-            && image.host.try_push_str(at.host).is_ok()
-            && image.prefix.try_push_str(at.prefix).is_ok();
+            && image.client.host.try_push_str(at.host).is_ok()
+            && image.client.prefix.try_push_str(at.prefix).is_ok();
         if fits { Ok(image) } else { Err(too_long()) }
     }
 
@@ -109,13 +100,10 @@ impl EtcdImage {
             self.say_holder(errors, rank, &found);
             return Err(io::Error::other("the node is of another machine"));
         };
-        let body = open_request(self.alloc, self.prefix.as_str().as_bytes(), &boot, revision);
-        match self.ask_write(rt, body)? {
-            WriteAnswer::Done(_) => {
-                self.writer = Writer::Boot(boot);
-                Ok(())
-            }
-            WriteAnswer::Refused => Err(io::Error::other("another start of the node was quicker")),
+        if self.ask_open(rt, boot, revision)? {
+            Ok(())
+        } else {
+            Err(io::Error::other("another start of the node was quicker"))
         }
     }
 
@@ -124,13 +112,13 @@ impl EtcdImage {
         &mut self,
         rt: &R,
     ) -> io::Result<()> {
-        let Writer::Boot(boot) = &self.writer else {
+        if matches!(self.client.writer, Writer::Command(_)) {
             return Ok(());
-        };
-        let body = release_request(self.alloc, self.prefix.as_str().as_bytes(), boot);
-        match self.ask_write(rt, body)? {
-            WriteAnswer::Done(_) => Ok(()),
-            WriteAnswer::Refused => Err(self.refusal()),
+        }
+        if self.ask_release(rt)? {
+            Ok(())
+        } else {
+            Err(self.refusal())
         }
     }
 
@@ -143,16 +131,10 @@ impl EtcdImage {
     ) -> io::Result<()>
         requires { sector < 3072 }
     {
-        let prefix = self.prefix.as_str().as_bytes();
-        let key = sector_key(prefix, sector);
-        let body = read_request(self.alloc, prefix, &self.writer, sector);
-        match self.ask_read(rt, key.as_slice(), body)? {
-            ReadAnswer::Refused => Err(self.refusal()),
-            ReadAnswer::Absent => {
-                into.fill(0);
-                Ok(())
-            }
-            ReadAnswer::Present(entry) => put_sector(&entry, into),
+        match self.ask_read(rt, sector, into)? {
+            SectorRead::Done => Ok(()),
+            SectorRead::Refused => Err(self.refusal()),
+            SectorRead::OtherLength => Err(io::Error::other("a key of a sector has no 512 bytes")),
         }
     }
 
@@ -165,27 +147,11 @@ impl EtcdImage {
     ) -> io::Result<()>
         requires { sector < 3072 }
     {
-        let prefix = self.prefix.as_str().as_bytes();
-        let body = write_request(self.alloc, prefix, &self.writer, sector, from);
-        match self.ask_write(rt, body)? {
-            WriteAnswer::Refused => Err(self.refusal()),
-            WriteAnswer::Done(revision) => {
-                self.writer.note_write(sector, revision);
-                Ok(())
-            }
+        if self.ask_write(rt, sector, from)? {
+            Ok(())
+        } else {
+            Err(self.refusal())
         }
-    }
-
-    /// What the writer's key of that rank holds.
-    fn ask_holder<R: Net<Stream = TcpStream> + Clock>(
-        &mut self,
-        rt: &R,
-        rank: Rank,
-    ) -> io::Result<ReadAnswer> {
-        let prefix = self.prefix.as_str().as_bytes();
-        let key = writer_key(prefix, rank.0);
-        let body = holder_request(self.alloc, prefix, rank.0);
-        self.ask_read(rt, key.as_slice(), body)
     }
 
     /// Says on standard error of which machine the node is, and what to do.
@@ -195,7 +161,7 @@ impl EtcdImage {
         };
         let token = str::from_utf8(entry.value.as_slice()).unwrap_or("?");
         let machine = token.split_once(' ').map_or(token, |parts| parts.0);
-        let (prefix, rank) = (self.prefix.as_str(), rank.0);
+        let (prefix, rank) = (self.client.prefix.as_str(), rank.0);
         let _ = eprintln!(errors;
             "quorumd: {prefix}/writer/{rank:02} is of machine {machine}: etcdctl del {prefix}/writer/{rank:02} once that is off"
         );
@@ -203,85 +169,98 @@ impl EtcdImage {
 
     /// Why a transaction did nothing.
     fn refusal(&self) -> io::Error {
-        match self.writer {
+        match self.client.writer {
             Writer::Boot(_) => io::Error::other("a later start of this node reads and writes now"),
             Writer::Command(None) => io::Error::other("there are keys of this prefix already"),
             Writer::Command(Some(_)) => io::Error::other("somebody else wrote the image meanwhile"),
         }
     }
 
+    /// Asks for a sector. Where that failed no connection is tried for a second; so it is for each request.
     fn ask_read<R: Net<Stream = TcpStream> + Clock>(
         &mut self,
         rt: &R,
-        key: &[u8],
-        body: Result<String, AllocError>,
-    ) -> io::Result<ReadAnswer> {
-        let mut answer = ArrayVec::new();
-        let alloc = self.alloc;
-        let text = self.ask(rt, body, &mut answer)?;
-        let said = read_answer(alloc, key, text).map_err(no_answer);
-        self.times.noted(rt, said)
+        sector: u32,
+        into: &mut [u8; SECTOR],
+    ) -> io::Result<SectorRead>
+        requires { sector < 3072 }
+    {
+        self.times.check_rest(rt)?;
+        let asked = match self.line(rt) {
+            Ok(line) => self.client.read(line, sector, into),
+            Err(error) => Err(error),
+        };
+        let (_line, read) = self.times.noted(rt, asked)?;
+        Ok(read)
     }
 
+    /// Asks that a sector is written; whether the condition was so.
     fn ask_write<R: Net<Stream = TcpStream> + Clock>(
         &mut self,
         rt: &R,
-        body: Result<String, AllocError>,
-    ) -> io::Result<WriteAnswer> {
-        let mut answer = ArrayVec::new();
-        let alloc = self.alloc;
-        let text = self.ask(rt, body, &mut answer)?;
-        let said = write_answer(alloc, text).map_err(no_answer);
-        self.times.noted(rt, said)
+        sector: u32,
+        from: &[u8; SECTOR],
+    ) -> io::Result<bool>
+        requires { sector < 3072 }
+    {
+        self.times.check_rest(rt)?;
+        let asked = match self.line(rt) {
+            Ok(line) => self.client.write(line, sector, from),
+            Err(error) => Err(error),
+        };
+        let (_line, is_done) = self.times.noted(rt, asked)?;
+        Ok(is_done)
     }
 
-    /// Sends a request and gives the body of the answer.
-    fn ask<'a, R: Net<Stream = TcpStream> + Clock>(
+    /// Asks what the writer's key of that rank holds.
+    fn ask_holder<R: Net<Stream = TcpStream> + Clock>(
         &mut self,
         rt: &R,
-        body: Result<String, AllocError>,
-        answer: &'a mut ArrayVec<u8, ANSWER>,
-    ) -> io::Result<&'a str> {
-        let body = body.map_err(no_memory)?;
-        let request = post(self.alloc, self.host.as_str(), body.as_str()).map_err(no_memory)?;
+        rank: Rank,
+    ) -> io::Result<ReadAnswer> {
         self.times.check_rest(rt)?;
-        let done = self.ask_anew(rt, request.as_str().as_bytes(), answer);
-        self.times.noted(rt, done)
+        let asked = match self.line(rt) {
+            Ok(line) => self.client.find_holder(line, rank.0),
+            Err(error) => Err(error),
+        };
+        let (_line, found) = self.times.noted(rt, asked)?;
+        Ok(found)
     }
 
-    /// Sends a request over a connection of its own and gives the body of the answer.
-    fn ask_anew<'a, R: Net<Stream = TcpStream> + Clock>(
-        &self,
+    /// Asks that it is opened for a boot; whether the writer's key was still as it was at that revision.
+    fn ask_open<R: Net<Stream = TcpStream> + Clock>(
+        &mut self,
         rt: &R,
-        request: &[u8],
-        answer: &'a mut ArrayVec<u8, ANSWER>,
-    ) -> io::Result<&'a str> {
+        boot: Boot,
+        revision: u64,
+    ) -> io::Result<bool> {
+        self.times.check_rest(rt)?;
+        let asked = match self.line(rt) {
+            Ok(line) => self.client.open(line, boot, revision),
+            Err(error) => Err(error),
+        };
+        let (_line, is_open) = self.times.noted(rt, asked)?;
+        Ok(is_open)
+    }
+
+    /// Asks that the writer's key is set free; whether the boot still had it.
+    fn ask_release<R: Net<Stream = TcpStream> + Clock>(&mut self, rt: &R) -> io::Result<bool> {
+        self.times.check_rest(rt)?;
+        let asked = match self.line(rt) {
+            Ok(line) => self.client.release(line),
+            Err(error) => Err(error),
+        };
+        let (_line, is_free) = self.times.noted(rt, asked)?;
+        Ok(is_free)
+    }
+
+    /// A connection of its own to the member, for one request.
+    fn line<'a, R: Net<Stream = TcpStream> + Clock>(
+        &self,
+        rt: &'a R,
+    ) -> io::Result<TimedLine<'a, R>> {
         let end = self.times.end(rt)?;
-        let connection = Connection::open(rt, ServerAt::Tcp(self.address), end)?;
-        let mut writer = connection.until(rt, end);
-        let mut reader = connection.until(rt, end);
-        exchange(request, &mut writer, &mut reader, answer)
-    }
-}
-
-/// Puts the value of a key into a sector.
-fn put_sector(entry: &Entry, into: &mut [u8; SECTOR]) -> io::Result<()> {
-    let value = entry.value.as_slice();
-    if value.len() != SECTOR {
-        return Err(io::Error::other("a key of a sector has no 512 bytes"));
-    }
-    into.copy_from_slice(value);
-    Ok(())
-}
-
-fn no_memory(_: AllocError) -> io::Error {
-    io::Error::from(ErrorKind::OutOfMemory)
-}
-
-fn no_answer(fault: AnswerFault) -> io::Error {
-    match fault {
-        AnswerFault::NoMemory => io::Error::from(ErrorKind::OutOfMemory),
-        AnswerFault::Strange => strange(),
+        TimedLine::open(rt, ServerAt::Tcp(self.address), end)
     }
 }
 

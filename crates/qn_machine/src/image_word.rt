@@ -11,6 +11,9 @@ const BLOCK_SERVER: &str = "nbd:";
 /// What stands before the path of a server's socket.
 const SOCKET: &str = "unix:";
 
+/// What stands between that path and the name of an export, as QEMU writes it.
+const EXPORT: &str = ":exportname=";
+
 /// What stands after an image whose sectors have places of 4096 bytes.
 pub(crate) const LONG: &str = "@4096";
 
@@ -41,8 +44,8 @@ pub(crate) struct ImageWord<'w> {
 }
 
 impl<'w> ImageWord<'w> {
-    /// Reads the word: `PATH`, `nbd:HOST:PORT`, `nbd:HOST:PORT/NAME` or `nbd:unix:PATH`, each perhaps with `@4096` after it; or
-    /// `etcd:HOST:PORT/PREFIX`. HOST is a literal address, one of IPv6 in brackets.
+    /// Reads the word: `PATH`, `nbd:HOST:PORT`, `nbd:HOST:PORT/NAME`, `nbd:unix:PATH` or `nbd:unix:PATH:exportname=NAME`, each perhaps with
+    /// `@4096` after it; or `etcd:HOST:PORT/PREFIX`. HOST is a literal address, one of IPv6 in brackets.
     pub(crate) fn read(word: &'w str) -> io::Result<ImageWord<'w>> {
         let (place, stride) = match word.strip_suffix(LONG) {
             Some(place) => (place, Stride::Long),
@@ -59,8 +62,9 @@ impl<'w> ImageWord<'w> {
 
 /// Reads what stands after `nbd:`.
 fn block_server(word: &str) -> io::Result<Place<'_>> {
-    if let Some(path) = word.strip_prefix(SOCKET) {
-        return Ok(Place::Block(ServerAt::Unix(path), ""));
+    if let Some(socket) = word.strip_prefix(SOCKET) {
+        let (path, name) = socket.split_once(EXPORT).unwrap_or((socket, ""));
+        return Ok(Place::Block(ServerAt::Unix(path), name));
     }
     let (address, name) = word.split_once('/').unwrap_or((word, ""));
     match address.parse::<SocketAddr>() {

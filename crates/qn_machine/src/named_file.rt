@@ -5,7 +5,7 @@ ghost use Rattle.std.specs.Fd.{file_raw_fd};
 use arrayvec::ArrayString;
 use qn_exchange::TRIES;
 use std::fs::{self, File, OpenOptions};
-use std::io::{self, ErrorKind};
+use std::io::{self, ErrorKind, Write};
 use std::os::fd::{AsRawFd, RawFd};
 use std::os::unix::fs::FileExt;
 use std::rt::Files;
@@ -109,6 +109,35 @@ impl NamedFile {
         'parts: while at < from.len() {
             at += write_part(&self.file, &from[at..], place + at as u64)?;
         }
+        Ok(())
+    }
+}
+
+/// A file that is written from its first byte on.
+#[derive(Drop)]
+pub(crate) struct FromStart<'a> {
+    file: &'a File,
+    place: u64,
+}
+
+impl<'a> FromStart<'a> {
+    /// Of that file, of which nothing is written so far.
+    pub(crate) fn of(named: &'a NamedFile) -> FromStart<'a> {
+        FromStart {
+            file: &named.file,
+            place: 0,
+        }
+    }
+}
+
+impl<'a> Write for FromStart<'a> {
+    fn write(&mut self, buf: &[u8]) -> io::Result<usize> {
+        let count = write_part(self.file, buf, self.place)?;
+        self.place = self.place.saturating_add(count as u64);
+        Ok(count)
+    }
+
+    fn flush(&mut self) -> io::Result<()> {
         Ok(())
     }
 }

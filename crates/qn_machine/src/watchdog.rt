@@ -15,6 +15,9 @@ pub(crate) struct Watchdog {
 }
 
 impl Watchdog {
+    ghost use Rattle.std.specs.Prelude.{◌+◌, ◌<◌, ◌≤◌, IsSomeAnd, OnOk};
+    ghost use Rattle.qn_exchange.specs.Feeds.{feed_limit};
+
     /// Opens the watchdog of that path, and makes a file where there is none and that is wanted.
     pub(crate) fn open<R: Files<File = File>>(
         rt: &R,
@@ -32,12 +35,10 @@ impl Watchdog {
 
     /// Feeds it, where that is in time at that tick after the last answer of `now`. The byte stands after those before it: a device and
     /// a pipe take no write at a place of a file.
-    pub(crate) fn feed(
-        &self,
-        last_tick: Option<u64>,
-        tick: u64,
-        feed_delay: u64,
-    ) -> io::Result<()> {
+    pub(crate) fn feed(&self, last_tick: Option<u64>, tick: u64, feed_delay: u64) -> io::Result<()>
+        ensures { OnOk result (IsSomeAnd last_tick
+            (λ last. (last ≤ tick) × (tick < last + feed_limit feed_delay))) }
+    {
         feed_once(last_tick, tick, feed_delay, &mut &self.opened.file)
     }
 

@@ -7,20 +7,27 @@ use Rattle.qn_base.specs.declared.ids.View.{View}
 use Rattle.qn_base.specs.Members.{is_member}
 use Rattle.qn_model.specs.lemmas.LeastRanks.{least_bound}
 use Rattle.qn_candidate.specs.declared.candidate.Facts.{Facts}
-use Rattle.qn_member.specs.Naming.{NamingMaker, able_ones, is_led_by_name, keepers, leader_by_name, led_by_name}
+use Rattle.qn_member.specs.Naming.{NamingMaker, able_ones, is_led_by_name, keepers, leader_by_name, least_sure, led_by_name, sure_ones}
 use Rattle.qn_member.specs.Maker.{Maker, installed_beside, led_by, noted_with}
 use Rattle.qn_member.specs.NamingViews.{company_now, noted_by_name, said_by_name}
 use Rattle.qn_member.proofs.Companies.{found_within}
 use Rattle.qn_member.proofs.Ranks.{member_of-ranks_that}
 use Rattle.qn_member.proofs.Silent.{maker_leading}
 
+least_sure_within : (m : NamingMaker) (nodes : Mask) (found : ℕ) → least_sure m nodes ≡ Some found → found < length m.maker.nodes
+unfolding least_sure
+least_sure_within m nodes found is =
+    found_within _ _ found (length m.maker.nodes)
+    (λ n sure. let within = least_bound (length m.maker.nodes) 0 (is_member (sure_ones m nodes)) n sure in omega arith)
+    (λ n least. let within = least_bound (length m.maker.nodes) 0 (is_member nodes) n least in omega arith) is
+
 -- who leads is configured
 pub leader_by_name_within : (m : NamingMaker) (f : Facts) (found : ℕ) → leader_by_name m f ≡ Some found → found < length m.maker.nodes
 leader_by_name_within m f found is =
     found_within _ _ found (length m.maker.nodes)
     (λ n one. found_within _ _ n (length m.maker.nodes)
-    (λ k first. let within = least_bound (length m.maker.nodes) 0 (is_member (keepers m f)) k first in omega arith)
-    (λ k second. let within = least_bound (length m.maker.nodes) 0 (is_member (able_ones m)) k second in omega arith) one)
+    (least_sure_within m (keepers m f))
+    (least_sure_within m (able_ones m)) one)
     (λ n other. let within = least_bound (length m.maker.nodes) 0 (is_member m.maker.seen) n other in omega arith) is
 
 pub led_has_itself : (m : NamingMaker) → m.maker.me < length m.maker.nodes → is_member (led_by_name m) m.maker.me ≡ true

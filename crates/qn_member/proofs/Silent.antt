@@ -15,7 +15,7 @@ use Rattle.qn_member.specs.declared.told.Told.{Told}
 use Rattle.qn_member.specs.Announcing.{after_hello_due, is_beat, is_hello_due, is_news, is_same_said, view_to_announce}
 use Rattle.qn_member.specs.Maker.{Maker, after_announce, after_hello, after_plain_hello, after_tick, first_maker, has_configured, installed, is_configured, led_by, looked, plain, says_more, view_at}
 use Rattle.qn_member.specs.MakerCalls.{Announce, Due, Hello, Look, MakerCall, PlainHello, after_call, after_calls}
-use Rattle.qn_member.specs.Naming.{NamingMaker, after_named_announce, after_named_hello, after_named_plain_hello, after_standing, first_naming, flagged_nodes, flags_of, has_bit, is_other, is_own, knows_all, knows_bit}
+use Rattle.qn_member.specs.Naming.{NamingMaker, after_named_announce, after_named_hello, after_named_plain_hello, after_standing, first_naming, flagged_nodes, flags_of, has_bit, holds_bit, is_other, is_own, is_passed_over, is_unable_then, knows_all, knows_bit}
 use Rattle.qn_member.specs.NamingCalls.{Called, IsPlain, Says, SilentCall, after_naming_call, after_silent_call, plain_calls, silent_maker}
 use Rattle.qn_member.specs.NamingViews.{after_found, after_look, after_naming_hello_due, after_plain_look, answer_at, chosen_by, copy_of, handed, is_closed_to, is_led_by, is_naming_hello_due, is_naming_news, is_view_news, leading, may_not_start, standing_at, view_announced, view_found}
 use Rattle.qn_member.proofs.Kept.{nothing_at}
@@ -128,9 +128,17 @@ silent_standing from standing m silent =
     })
     (λ is. silent)
 
-maker_standing : (from : ℕ) (standing : Standing) (m : NamingMaker) → (after_standing from standing m).maker ≡ m.maker
-maker_standing from standing m =
-    by_if (λ (n : NamingMaker). n.maker ≡ m.maker) (is_other m from && has_bit standing.flags knows_bit) _ _ (λ is. refl) (λ is. refl)
+-- nobody is passed over by a node that says nothing of itself
+passes_nobody : (m : NamingMaker) (from flags : ℕ) → Silent m → is_passed_over m from flags ≡ false
+passes_nobody m from flags silent =
+    ap (λ b. b && not (is_own m holds_bit) && m.maker.enough == 0 && slice_index_or m.deaf from false && is_unable_then m from flags) (no_bit m knows_bit silent)
+
+maker_standing : (from : ℕ) (standing : Standing) (m : NamingMaker) → Silent m → (after_standing from standing m).maker ≡ m.maker
+maker_standing from standing m silent =
+    by_if (λ (n : NamingMaker). n.maker ≡ m.maker) (is_other m from && has_bit standing.flags knows_bit) _ _
+    (λ is. ap (λ (said : List (Option Said)). record m.maker { said = said })
+    (if_fails (is_passed_over m from standing.flags) _ m.maker.said (passes_nobody m from standing.flags silent)))
+    (λ is. refl)
 
 -- ## Looks
 
@@ -268,7 +276,7 @@ maker_calls s me loop_ms (Called made ∷ earlier) =
     maker_call made (silent_maker s me loop_ms earlier) (silent_calls s me loop_ms earlier)
     ∙ ap (after_call made) (maker_calls s me loop_ms earlier)
 maker_calls s me loop_ms (Says from standing ∷ earlier) =
-    maker_standing from standing (silent_maker s me loop_ms earlier) ∙ maker_calls s me loop_ms earlier
+    maker_standing from standing (silent_maker s me loop_ms earlier) (silent_calls s me loop_ms earlier) ∙ maker_calls s me loop_ms earlier
 
 pub is_plain_after : (s : Settings) (me loop_ms : ℕ) (calls : List SilentCall) → IsPlain s me loop_ms calls (silent_maker s me loop_ms calls)
 is_plain_after s me loop_ms calls =

@@ -1,6 +1,6 @@
 -- A view maker whose views name who may start: what it knows besides, and whom it follows where each node that it sees knows names.
 -- This project's profile; bars and weights are after Pacemaker's standby and location scores.
-use Rattle.std.specs.Prelude.{ℕ, Bool, true, false, List, Option, None, ◌+◌, ◌%◌, ◌^◌, ◌==◌, ◌&&◌, ◌||◌, not, nat_le, nat_lt, bit_or, if◌then◌else◌, length, replicate, slice_index_or, slice_set}
+use Rattle.std.specs.Prelude.{ℕ, Bool, true, false, List, Option, None, Some, ◌+◌, ◌%◌, ◌^◌, ◌==◌, ◌&&◌, ◌||◌, not, nat_le, nat_lt, bit_or, if◌then◌else◌, length, replicate, slice_index_or, slice_set}
 use Rattle.std.specs.Int.{bit_at}
 use Rattle.std.specs.Option.{option_map_or, option_or}
 use Rattle.qn_base.specs.declared.ids.Mask.{Mask}
@@ -9,7 +9,7 @@ use Rattle.qn_base.specs.declared.ids.Standing.{Standing}
 use Rattle.qn_base.specs.declared.ids.View.{View}
 use Rattle.qn_base.specs.Members.{is_member}
 use Rattle.qn_model.specs.declared.configuration.Settings.{Settings}
-use Rattle.qn_model.specs.Votes.{votes_among}
+use Rattle.qn_model.specs.Votes.{quorum_of, votes_among}
 use Rattle.qn_candidate.specs.declared.candidate.Facts.{Facts}
 use Rattle.qn_candidate.specs.Candidate.{meets}
 use Rattle.qn_member.specs.declared.lead.Lead.{Lead}
@@ -19,7 +19,10 @@ use Rattle.qn_member.specs.Maker.{Maker, after_announce, after_hello, first_make
 -- said of itself beside it.
 pub record NamingMaker : Type 0 where
   pub maker : Maker  -- what the Hellos and announcements of the others say
+  pub sure : ℕ  -- the votes that a side needs of its own nodes where the device gives it none
   pub hears : List Mask
+  pub deaf : List Bool  -- by rank, whether the last Hello of a node did not name this one
+  pub unable : List Bool  -- whether a node said that it never starts, and named this one in no Hello since that does not say so
   pub flags : List ℕ  -- 0 where a node knows no names
   pub weights : List ℕ
   pub lead : Option Lead  -- who led at the last look, and since when
@@ -35,7 +38,10 @@ abbrev pub first_naming : Settings → ℕ → ℕ → NamingMaker
 first_naming s me loop_ms =
     record {
       maker = first_maker s me loop_ms;
+      sure = quorum_of s s.expected;
       hears = replicate 32 (record { 0 = 0 });
+      deaf = replicate 32 false;
+      unable = replicate 32 false;
       flags = replicate 32 0;
       weights = replicate 32 0;
       lead = None;
@@ -51,7 +57,7 @@ first_naming s me loop_ms =
 -- ## What nodes say of themselves
 
 -- The bits of what a node says of itself: it may never hold; may not hold now; asks for the resource; holds; holds, or sees one
--- that holds; knows names.
+-- that holds; knows names; is able to lead with the votes of the device alone.
 abbrev pub barred_bit : ℕ
 barred_bit = 0
 
@@ -69,6 +75,9 @@ keeps_bit = 4
 
 abbrev pub knows_bit : ℕ
 knows_bit = 5
+
+abbrev pub leans_bit : ℕ
+leans_bit = 6
 
 abbrev pub has_bit : ℕ → ℕ → Bool
 has_bit flags bit = bit_at flags bit == 1
@@ -127,6 +136,7 @@ after_named_hello tick from said m =
     then record m {
       maker = after_hello tick from said m.maker;
       hears = slice_set m.hears from (said_in m.maker said).hears;
+      deaf = slice_set m.deaf from (not (is_member said.hears m.maker.me));
       flags = slice_set m.flags from 0;
       withdrawn = withdrawn_by from (said_in m.maker said) m.withdrawn;
     }
@@ -136,11 +146,40 @@ abbrev pub after_named_plain_hello : ℕ → ℕ → NamingMaker → NamingMaker
 after_named_plain_hello tick from m =
     if is_configured m.maker from && not (says_more tick m.maker from) then after_named_hello tick from plain m else m
 
+-- who says that it is barred, or unfit and does not hold, starts under no view
+abbrev pub never_starts : ℕ → Bool
+never_starts flags = has_bit flags barred_bit || has_bit flags unfit_bit && not (has_bit flags holds_bit)
+
+-- the first Hello of a process may say that it may hold before its host's word came: that counts once it names this node
+abbrev pub is_unable_then : NamingMaker → ℕ → ℕ → Bool
+is_unable_then m from flags = never_starts flags || slice_index_or m.deaf from false && slice_index_or m.unable from false
+
+-- With two_node a Hello counts as one that names all. But where a node that does not hold hears one that never starts and did not
+-- name it, that Hello counts as one that names nobody: no start waits for its sender then.
+abbrev pub is_passed_over : NamingMaker → ℕ → ℕ → Bool
+is_passed_over m from flags =
+    is_own m knows_bit
+    && not (is_own m holds_bit)
+    && m.maker.enough == 0
+    && slice_index_or m.deaf from false
+    && is_unable_then m from flags
+
+abbrev pub names_nobody : Said
+names_nobody = record { hears = record { 0 = 0 }; follows = None; able = false }
+
+abbrev pub said_with : NamingMaker → ℕ → ℕ → List (Option Said)
+said_with m from flags = if is_passed_over m from flags then slice_set m.maker.said from (Some names_nobody) else m.maker.said
+
 -- what a node says of itself counts where it knows names
 abbrev pub after_standing : ℕ → Standing → NamingMaker → NamingMaker
 after_standing from standing m =
     if is_other m from && has_bit standing.flags knows_bit
-    then record m { flags = slice_set m.flags from standing.flags; weights = slice_set m.weights from standing.weight }
+    then record m {
+      maker = record m.maker { said = said_with m from standing.flags };
+      flags = slice_set m.flags from standing.flags;
+      weights = slice_set m.weights from standing.weight;
+      unable = slice_set m.unable from (is_unable_then m from standing.flags);
+    }
     else m
 
 -- what the node itself says: whether it is barred, unfit, or pulls, its weight, and whether it holds
@@ -199,9 +238,26 @@ is_keeper m f rank =
 abbrev pub keepers : NamingMaker → Facts → Mask
 keepers m f = record { 0 = ranks_that (is_keeper m f) (length m.maker.nodes) }
 
--- a node follows the least able node that keeps, where there is none the least able one
+-- a node is sure where its visible nodes have the votes without those of the device
+abbrev pub has_sure_votes : NamingMaker → Bool
+has_sure_votes m = nat_le m.sure (votes_among m.maker.nodes m.maker.seen)
+
+abbrev pub is_sure : NamingMaker → ℕ → Bool
+is_sure m rank = if rank == m.maker.me then has_sure_votes m else not (has_bit (flags_of m rank) leans_bit)
+
+abbrev pub is_sure_in : NamingMaker → Mask → ℕ → Bool
+is_sure_in m nodes rank = is_member nodes rank && is_sure m rank
+
+abbrev pub sure_ones : NamingMaker → Mask → Mask
+sure_ones m nodes = record { 0 = ranks_that (is_sure_in m nodes) (length m.maker.nodes) }
+
+-- the least of these that is sure, else the least of them
+unfoldable pub least_sure : NamingMaker → Mask → Option ℕ
+least_sure m nodes = option_or (least_of m.maker (sure_ones m nodes)) (least_of m.maker nodes)
+
+-- a node follows the least able node that keeps, where there is none the least able one; of each of these a sure one first
 abbrev pub followed_by_name : NamingMaker → Facts → Option ℕ
-followed_by_name m f = option_or (least_of m.maker (keepers m f)) (least_of m.maker (able_ones m))
+followed_by_name m f = option_or (least_sure m (keepers m f)) (least_sure m (able_ones m))
 
 abbrev pub leader_by_name : NamingMaker → Facts → Option ℕ
 leader_by_name m f = option_or (followed_by_name m f) (least_of m.maker m.maker.seen)

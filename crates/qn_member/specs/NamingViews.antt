@@ -18,7 +18,7 @@ use Rattle.qn_member.specs.declared.lead.Lead.{Lead}
 use Rattle.qn_member.specs.declared.told.Told.{Told}
 use Rattle.qn_member.specs.Announcing.{is_beat, is_same_said, view_to_announce}
 use Rattle.qn_member.specs.Maker.{Maker, after_tick, company_at, followed, followed_view, is_able, heard_nodes, installed_beside, is_configured, is_first_due, is_in_one, is_present, is_steady, known_nodes, least_of, led_by, members_at, noted_with, ranks_that, seeing, view_at, visible_nodes}
-use Rattle.qn_member.specs.Naming.{NamingMaker, barred_bit, company_by_name, facts_of, flagged_nodes, flags_of, followed_by_name, holds_bit, is_fit_to_lead, is_own, is_withdrawn, knows_all, knows_bit, unfit_bit}
+use Rattle.qn_member.specs.Naming.{NamingMaker, barred_bit, company_by_name, facts_of, flagged_nodes, flags_of, followed_by_name, has_sure_votes, holds_bit, is_fit_to_lead, is_own, is_withdrawn, knows_all, knows_bit, unfit_bit}
 
 -- ## Who leads
 
@@ -227,11 +227,18 @@ abbrev pub handed : Option View → NamingMaker → Option View
 handed None m = copy_again m
 handed (Some view) m = Some (copy_of m view)
 
+-- a node leans that is able to lead with the votes of the device alone
+abbrev pub is_leaning : NamingMaker → Bool
+is_leaning m = is_fit_to_lead m && not (has_sure_votes m)
+
 -- what the node says of itself then
+abbrev pub flags_with : Bool → ℕ → ℕ → ℕ
+flags_with says flag flags = if says then bit_or flags flag else flags
+
 abbrev pub standing_with : Bool → NamingMaker → Standing
 standing_with keeps m =
     record {
-      flags = if keeps then bit_or (flags_of m m.maker.me) 16 else flags_of m m.maker.me;
+      flags = flags_with (is_leaning m) 64 (flags_with keeps 16 (flags_of m m.maker.me));
       weight = slice_index_or m.weights m.maker.me 0;
     }
 

@@ -1,6 +1,6 @@
 //! A view maker whose views name who may start, and its calls but for the look.
 ghost use Rattle.std.specs.Prelude.{◌≡◌, ◌<◌};
-ghost use Rattle.qn_member.specs.Naming.{has_bit, own_flags, withdraws};
+ghost use Rattle.qn_member.specs.Naming.{has_bit, never_starts, own_flags, withdraws};
 
 use crate::hearing::PLAIN;
 use crate::lead::Lead;
@@ -21,13 +21,21 @@ pub(crate) const PULLS: u8 = 2;
 pub(crate) const KEEPS: u8 = 4;
 /// It knows names.
 pub(crate) const KNOWS: u8 = 5;
+/// It is able to lead with the votes of the device alone.
+pub(crate) const LEANS: u8 = 6;
 
 /// The view maker of a node that knows names (this project's profile). Without `stand` it is a `Member`.
 #[derive(Drop)]
 pub struct NamingMember {
     pub(crate) member: Member,
+    /// The votes that a side needs of its own nodes where the device gives it none.
+    pub(crate) sure: u64,
     /// By rank, whom a node hears as its last Hello says; of the node itself, whom it sees.
     pub(crate) hears: [Mask; 32],
+    /// By rank, whether the last Hello of a node did not name this one.
+    pub(crate) deaf: [bool; 32],
+    /// By rank, whether a node said that it never starts, and named this one in no Hello since that does not say so.
+    pub(crate) unable: [bool; 32],
     /// By rank, the bits of what a node said of itself; 0 where it knows no names.
     pub(crate) flags: [u8; 32],
     /// By rank, how much a node is preferred: more is better.
@@ -58,7 +66,10 @@ impl Model for NamingMember {
     ghost view = { λ m.
         record {
           maker = m.member;
+          sure = m.sure;
           hears = m.hears;
+          deaf = m.deaf;
+          unable = m.unable;
           flags = m.flags;
           weights = m.weights;
           lead = m.lead;
@@ -80,6 +91,20 @@ pub(crate) fn has_bit(flags: u8, bit: u8) -> bool
     flags >> bit & 1 == 1
 }
 
+/// A Hello of a node that hears nobody.
+const NAMES_NOBODY: Said = Said {
+    hears: Mask(0),
+    follows: None,
+    able: false,
+};
+
+/// Whether a node says that it is barred, or unfit and does not hold: it starts under no view.
+fn never_starts(flags: u8) -> bool
+    ensures { result ≡ never_starts flags }
+{
+    has_bit(flags, BARRED) || has_bit(flags, UNFIT) && !has_bit(flags, HOLDS)
+}
+
 /// Whether a Hello of that rank says that it follows another node.
 fn withdraws(from: Rank, said: Said) -> bool
     ensures { result ≡ withdraws from.0 said }
@@ -99,7 +124,7 @@ fn own_flags(standing: Standing, holds: bool) -> u8
 
 impl NamingMember {
     ghost use Rattle.std.specs.Prelude.{◌≡◌, ◌<◌, IsTrue};
-    ghost use Rattle.qn_member.specs.Naming.{after_named_announce, after_named_hello, after_named_plain_hello, after_stand, after_standing, first_naming, flags_of, is_other, is_own};
+    ghost use Rattle.qn_member.specs.Naming.{after_named_announce, after_named_hello, after_named_plain_hello, after_stand, after_standing, first_naming, flags_of, is_other, is_own, is_passed_over, is_unable_then};
 
     /// The view maker of the node of that rank.
     pub fn new(settings: &Settings, me: Rank, loop_ms: u64) -> Self
@@ -107,7 +132,10 @@ impl NamingMember {
     {
         NamingMember {
             member: Member::new(settings, me, loop_ms),
+            sure: settings.quorum(settings.expected),
             hears: [Mask(0); 32],
+            deaf: [false; 32],
+            unable: [false; 32],
             flags: [0; 32],
             weights: [0; 32],
             lead: None,
@@ -142,6 +170,7 @@ impl NamingMember {
         if self.is_other(from) {
             let heard = self.member.said_in(said);
             self.hears[usize::from(from.0)] = heard.hears;
+            self.deaf[usize::from(from.0)] = !said.hears.has(self.member.me);
             self.flags[usize::from(from.0)] = 0;
             if withdraws(from, heard) {
                 self.withdrawn[usize::from(from.0)] = true;
@@ -164,9 +193,36 @@ impl NamingMember {
         ensures { self.new ≡ after_standing from.0 standing self.old }
     {
         if self.is_other(from) && has_bit(standing.flags, KNOWS) {
+            let passed_over = self.is_passed_over(from, standing.flags);
+            let unable = self.is_unable_then(from, standing.flags);
+            if passed_over {
+                self.member.said[usize::from(from.0)] = Some(NAMES_NOBODY);
+            }
+            self.unable[usize::from(from.0)] = unable;
             self.flags[usize::from(from.0)] = standing.flags;
             self.weights[usize::from(from.0)] = standing.weight;
         }
+    }
+
+    /// Whether a Hello counts as one that names nobody, once its sender says this: with `two_node`, while this node does not hold, that of a node
+    /// which never starts and did not name it.
+    fn is_passed_over(&self, from: Rank, flags: u8) -> bool
+        requires { from.0 < 32 }
+        ensures { result ≡ is_passed_over self.now from.0 flags }
+    {
+        self.is_own(KNOWS)
+            && !self.is_own(HOLDS)
+            && self.member.enough == 0
+            && self.deaf[usize::from(from.0)]
+            && self.is_unable_then(from, flags)
+    }
+
+    /// Whether a node counts as one that never starts, once its Hello says this.
+    fn is_unable_then(&self, from: Rank, flags: u8) -> bool
+        requires { from.0 < 32 }
+        ensures { result ≡ is_unable_then self.now from.0 flags }
+    {
+        never_starts(flags) || self.deaf[usize::from(from.0)] && self.unable[usize::from(from.0)]
     }
 
     /// What the node says of itself from now on: whether it is barred, unfit, or pulls (bits 0 to 2), how much it is preferred, and

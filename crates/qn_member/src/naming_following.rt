@@ -1,5 +1,5 @@
 //! Whom a node follows, and whom it leads, where all that it sees know names.
-use crate::naming::{BARRED, HOLDS, KEEPS, KNOWS, NamingMember, PULLS, UNFIT, has_bit};
+use crate::naming::{BARRED, HOLDS, KEEPS, KNOWS, LEANS, NamingMember, PULLS, UNFIT, has_bit};
 use qn_base::{Mask, Rank};
 use qn_candidate::{Facts, meets};
 
@@ -8,7 +8,7 @@ impl NamingMember {
     ghost use Rattle.std.specs.Option.{option_map};
     ghost use Rattle.qn_base.specs.Members.{is_member};
     ghost use Rattle.qn_member.specs.Maker.{has_configured};
-    ghost use Rattle.qn_member.specs.Naming.{able_ones, company_by_name, facts_of, flagged_nodes, followed_by_name, is_able_node, is_fit_to_lead, is_flagged, is_keeper, is_led_by_name, is_met_holder, keepers, knows_all, leader_by_name, led_by_name, met_holders};
+    ghost use Rattle.qn_member.specs.Naming.{able_ones, company_by_name, facts_of, flagged_nodes, followed_by_name, has_sure_votes, is_able_node, is_fit_to_lead, is_flagged, is_keeper, is_led_by_name, is_met_holder, is_sure, is_sure_in, keepers, knows_all, leader_by_name, least_sure, led_by_name, met_holders, sure_ones};
 
     fn is_flagged(&self, visible: Mask, bit: u8, rank: Rank) -> bool
         requires bit { bit < 8 }
@@ -135,14 +135,64 @@ impl NamingMember {
         found
     }
 
-    /// The least able node that keeps, else the least able one.
+    /// Whether the nodes that the node sees have enough votes without those of the device.
+    pub(crate) fn has_sure_votes(&self) -> bool
+        ensures { result ≡ has_sure_votes self.now }
+    {
+        self.sure <= self.member.nodes.votes_among(self.member.seen)
+    }
+
+    /// Whether a node has enough votes without those of the device: as it says, or as the node itself finds.
+    fn is_sure(&self, rank: Rank) -> bool
+        requires { rank.0 < 32 }
+        ensures { result ≡ is_sure self.now rank.0 }
+    {
+        if rank == self.member.me {
+            self.has_sure_votes()
+        } else {
+            !has_bit(self.flags_of(rank), LEANS)
+        }
+    }
+
+    fn is_sure_in(&self, nodes: Mask, rank: Rank) -> bool
+        requires { rank.0 < 32 }
+        ensures { result ≡ is_sure_in self.now nodes rank.0 }
+    {
+        nodes.has(rank) && self.is_sure(rank)
+    }
+
+    fn sure_ones(&self, nodes: Mask) -> Mask
+        ensures { result ≡ sure_ones self.now nodes }
+    {
+        let mut found = Mask(0);
+        for rank in 0..self.member.count() {
+            if self.is_sure_in(nodes, Rank(rank)) {
+                found = found.with(Rank(rank));
+            }
+        }
+        found
+    }
+
+    /// The least of these nodes that is sure, else the least of them.
+    #[tactic(auto, unfolding(crate::specs::Naming::least_sure))]
+    fn least_sure(&self, nodes: Mask) -> Option<Rank>
+        ensures exact { option_map (λ rank. rank.0) result ≡ least_sure self.now nodes }
+        ensures below { IfSome result (λ rank. rank.0 < 32) }
+    {
+        match self.member.least_of(self.sure_ones(nodes)) {
+            Some(rank) => Some(rank),
+            None => self.member.least_of(nodes),
+        }
+    }
+
+    /// The least able node that keeps, else the least able one; of each of these a sure one first.
     pub(crate) fn followed_by_name(&self, facts: &Facts) -> Option<Rank>
         ensures exact { option_map (λ rank. rank.0) result ≡ followed_by_name self.now facts.now }
         ensures below { IfSome result (λ rank. rank.0 < 32) }
     {
-        match self.member.least_of(self.keepers(facts)) {
+        match self.least_sure(self.keepers(facts)) {
             Some(rank) => Some(rank),
-            None => self.member.least_of(self.able_ones()),
+            None => self.least_sure(self.able_ones()),
         }
     }
 

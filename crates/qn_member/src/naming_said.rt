@@ -1,14 +1,24 @@
 //! What a view maker that names says: of itself, its view, and when a Hello is due.
+ghost use Rattle.std.specs.Prelude.{◌≡◌};
+ghost use Rattle.qn_member.specs.NamingViews.{flags_with};
+
 use crate::naming::{HOLDS, KNOWS, NamingMember};
 use crate::told::Told;
 use qn_base::{Rank, Said, Standing, View};
+
+/// These flags, and one more where the node says so.
+fn flags_with(says: bool, flag: u8, flags: u8) -> u8
+    ensures { result ≡ flags_with says flag flags }
+{
+    if says { flags | flag } else { flags }
+}
 
 impl NamingMember {
     ghost use Rattle.std.specs.Prelude.{◌≡◌, ◌<◌, slice_index_or};
     ghost use Rattle.std.specs.Option.{option_map};
     ghost use Rattle.qn_member.specs.Announcing.{view_to_leave};
     ghost use Rattle.qn_member.specs.Maker.{led_by};
-    ghost use Rattle.qn_member.specs.NamingViews.{after_naming_hello_due, is_naming_hello_due, is_naming_news, is_naming_news_due, is_view_news, standing_at, view_announced};
+    ghost use Rattle.qn_member.specs.NamingViews.{after_naming_hello_due, is_leaning, is_naming_hello_due, is_naming_news, is_naming_news_due, is_view_news, standing_at, view_announced};
 
     /// What the node says of itself after a look.
     pub(crate) fn standing_at(&self) -> Standing
@@ -24,8 +34,16 @@ impl NamingMember {
         let me = self.member.me;
         let own = self.flags_of(me);
         let weight = self.weight_of(me);
-        let flags = if keeps { own | 16 } else { own };
+        let leans = self.is_leaning();
+        let flags = flags_with(leans, 64, flags_with(keeps, 16, own));
         Standing { flags, weight }
+    }
+
+    /// Whether the node is able to lead with the votes of the device alone.
+    fn is_leaning(&self) -> bool
+        ensures { result ≡ is_leaning self.now }
+    {
+        self.is_fit_to_lead() && !self.has_sure_votes()
     }
 
     fn weight_of(&self, rank: Rank) -> u8

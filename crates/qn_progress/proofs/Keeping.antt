@@ -181,3 +181,7 @@ pub by_member : (s : Settings) (rank : ℕ) (old mid new : List Moment) → ((ot
     → (is_holder s new rank ≡ true) ⊎ ((other : ℕ) × HasHeld s other old mid) → (holder : ℕ) × (is_holder s new holder ≡ true)
 by_member s rank old mid new goes (inl holds) = (rank, holds)
 by_member s rank old mid new goes (inr held) = (held.0, goes held.0 held.1)
+
+-- and gives no Stop meanwhile
+pub keeper_calm : {s : Settings} {rank : ℕ} {old new : List Moment} → KeepsOn s rank old new → stop_due (node s rank new).log ≡ false
+keeper_calm keeps = calm_since keeps.calm keeps.since

@@ -1,11 +1,12 @@
 //! The bounded take-over.
-ghost use Rattle.std.specs.Prelude.{◌≡◌, ◌≤◌, ◌<◌, ◌+◌, ◌⊎◌, ℕ, true, List, IsTrue};
+ghost use Rattle.std.specs.Prelude.{◌≡◌, ◌≤◌, ◌<◌, ◌+◌, ◌⊎◌, ℕ, true, false, List, IsTrue};
 ghost use Rattle.qn_base.specs.declared.ids.Mask.{Mask};
 ghost use Rattle.qn_base.specs.declared.ids.View.{View};
 ghost use Rattle.qn_model.specs.declared.configuration.Settings.{Settings};
 ghost use Rattle.qn_model.specs.declared.events.Event.{Event};
 ghost use Rattle.qn_model.specs.declared.times.Timing.{Timing};
 ghost use Rattle.qn_model.specs.Hearing.{is_free};
+ghost use Rattle.qn_model.specs.Holding.{stop_due};
 ghost use Rattle.qn_model.specs.Moments.{Moment, is_holder, node, tick_of};
 ghost use Rattle.qn_model.specs.Log.{Line};
 ghost use Rattle.qn_model.specs.NodeVotes.{install, quorate_with_tie, view};
@@ -127,6 +128,13 @@ pub fn law_holder_holds()
         → KeepsOn s rank old new
         → HasHeld s rank old new
         → IsTrue (is_holder s new rank) }
+{}
+
+/// No Stop of such a node is unanswered as long as it may keep what it holds, whether it holds or not: none comes out.
+pub fn law_keeper_is_calm()
+    ensures { (s : Settings) (rank : ℕ) (old new : List Moment)
+        → KeepsOn s rank old new
+        → stop_due (node s rank new).log ≡ false }
 {}
 
 /// So in a quiet world in which packets arrive in time, and who held meanwhile keeps its quorum and its name, some node holds after a bounded

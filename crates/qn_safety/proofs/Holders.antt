@@ -6,7 +6,7 @@ use Rattle.qn_model.specs.declared.events.Event.{Event}
 use Rattle.qn_model.specs.Timing.{is_safe}
 use Rattle.qn_model.specs.Moments.{Itself, is_holder}
 use Rattle.qn_model.specs.Steps.{run, AllAllowed}
-use Rattle.qn_safety.specs.AnyNumbers.{OneMayHold}
+use Rattle.qn_safety.specs.AnyNumbers.{AllMay, OneMayHold}
 use Rattle.qn_safety.specs.Timed.{IsTimedRun}
 use Rattle.qn_safety.proofs.Events.{IsAllowed, allowed_of, may_of, stage}
 use Rattle.qn_safety.proofs.Facts.{headers_agree, clean_means_closed}
@@ -38,3 +38,6 @@ one_holder s t events i j safe all = holder_of_allowed s t events i j safe (allo
 -- the same of events with any numbers
 pub one_may_hold : (s : Settings) (t : Timing) → is_safe t ≡ true → OneMayHold s t
 one_may_hold s t safe events i j all = holder_of_allowed s t events i j safe (may_of s t events all)
+
+pub any_run_timed : (s : Settings) (t : Timing) (events : List Event) → AllMay s t events → IsTimedRun s t (run s t events).moments
+any_run_timed s t events all = timed (may_of s t events all)

@@ -11,7 +11,7 @@ ghost use Rattle.qn_model.specs.Timing.{is_safe};
 ghost use Rattle.qn_model.specs.Moments.{Before, Moment, is_holder, time};
 ghost use Rattle.qn_model.specs.World.{node_at};
 ghost use Rattle.qn_model.specs.Steps.{AllAllowed, holders, run};
-ghost use Rattle.qn_safety.specs.AnyNumbers.{OneMayHold};
+ghost use Rattle.qn_safety.specs.AnyNumbers.{AllMay, OneMayHold};
 ghost use Rattle.qn_safety.specs.Clocks.{RunsOn, clock};
 ghost use Rattle.qn_safety.specs.Closing.{asked_close, has_landed_close};
 ghost use Rattle.qn_safety.specs.Premises.{OneAfterAnother};
@@ -116,4 +116,12 @@ pub fn law_premises_are_met()
 /// settings and all safe timing: `law_no_two_holders` is this law of well formed events.
 pub fn law_any_numbers()
     ensures { (s : Settings) (t : Timing) → IsTrue (is_safe t) → OneMayHold s t }
+{}
+
+/// The moments of every run of events that the rules allow, whatever their numbers, are a timed run: `law_runs_are_timed` is this
+/// law of well formed events.
+pub fn law_any_runs_are_timed()
+    ensures { (s : Settings) (t : Timing) (events : List Event)
+        → AllMay s t events
+        → IsTimedRun s t (run s t events).moments }
 {}

@@ -3,7 +3,7 @@
 //! Promises: in the world after any events that are allowed at most one node holds the resource
 //! (`law_no_two_holders`). The same holds at each moment of every timed run (`law_timed_runs`), which knows
 //! the shared disk by four facts alone (`specs/Timed`); every run of the world is one
-//! (`law_runs_are_timed`). Beside it: what holds of the incarnations of one node (`law_incarnations`), how a
+//! (`law_runs_are_timed`, and `law_any_runs_are_timed` whatever its numbers are). Beside it: what holds of the incarnations of one node (`law_incarnations`), how a
 //! clock runs beside true time (`law_clocks`), and that with wait_for_all nothing is quorate before some node
 //! saw all (`law_wait_for_all`). The two lemmas that the theorem rests on are laws too: `law_fence` and
 //! `law_tells`; over the events of the world, from the landing of a reset on, the first is `law_landed_reset`. What one
@@ -47,8 +47,8 @@ pub use arbiter_laws::{
 pub use arbiter_reports::{ArbiterReport, Said};
 pub use landing::law_landed_reset;
 pub use laws::{
-    law_any_numbers, law_clocks, law_incarnations, law_no_two_holders, law_premises_are_met,
-    law_runs_are_timed, law_timed_runs, law_wait_for_all,
+    law_any_numbers, law_any_runs_are_timed, law_clocks, law_incarnations, law_no_two_holders,
+    law_premises_are_met, law_runs_are_timed, law_timed_runs, law_wait_for_all,
 };
 pub use lease::{LONGEST_LEASE, Lease, lease_safe};
 pub use lemmas::{law_fence, law_tells};

@@ -1,6 +1,8 @@
 -- Words joined by a byte, written one after another.
-use Rattle.std.proofs.Common.{◌≡◌, ◌+◌, ◌<◌, ◌≤◌, ℕ, true, false, cond, List, [], ◌∷◌, ◌++◌, length, map, take, drop, get_or, refl, sym, ap, ◌∙◌, append_assoc, append-nil, arith}
+use Rattle.std.proofs.Common.{◌≡◌, ◌+◌, ◌<◌, ◌≤◌, ◌==◌, ℕ, zero, suc, true, false, cond, List, [], ◌∷◌, ◌++◌, length, map, take, drop, get_or, refl, sym, ap, ◌∙◌, append_assoc, append-nil, arith}
 use Rattle.std.specs.List.{join_with_byte}
+use Rattle.std.specs.Prelude.{slice_index}
+use Rattle.std.proofs.lemmas.Bool.Decides.{nat_tests}
 use Rattle.std.proofs.lemmas.List.{map-append, take_all, take_more, at_drop_more}
 use Rattle.qn_base.specs.declared.ids.Mask.{Mask}
 use Rattle.qn_base.specs.Members.{is_member}
@@ -50,13 +52,25 @@ module _ {X : Type 0} (byte : ℕ) (f : X → List ℕ) (xs : List X) where
       ∙ append_assoc old first (behind byte (map f xs))
       ∙ ap (λ rest. old ++ rest) (sym (join-behind byte first (map f xs)))
 
--- no node is a member
-pub ids_from-none : (rank : ℕ) (all : List ℕ) (members : Mask) → ((j : ℕ) → j < rank + length all → is_member members j ≡ false)
+-- no node from this rank on is a member
+pub ids_from-none : (rank : ℕ) (all : List ℕ) (members : Mask) → ((j : ℕ) → rank ≤ j → j < rank + length all → is_member members j ≡ false)
     → ids_from rank all members ≡ []
 ids_from-none rank [] members none = refl
 ids_from-none rank (id ∷ all) members none =
-    let here : is_member members rank ≡ false = none rank (omega arith) in
-    rw here (ids_from-none (rank + 1) all members (λ j low. none j (omega arith)))
+    let here : is_member members rank ≡ false = none rank (omega arith) (omega arith) in
+    rw here (ids_from-none (rank + 1) all members (λ j above low. none j (omega arith) (omega arith)))
+
+-- one node alone is a member
+pub ids_from-one : (rank place one : ℕ) (all : List ℕ) (members : Mask) → one ≡ rank + place → place < length all
+    → ((j : ℕ) → rank ≤ j → j < rank + length all → is_member members j ≡ (one == j)) → ids_from rank all members ≡ slice_index all place ∷ []
+ids_from-one rank place one [] members is inside only = absurd (omega arith)
+ids_from-one rank zero one (id ∷ all) members is inside only =
+    let here : is_member members rank ≡ true = only rank (omega arith) (omega arith) ∙ grind (arith, nat_tests) in
+    let others : ids_from (rank + 1) all members ≡ [] = ids_from-none (rank + 1) all members (λ j above low. only j (omega arith) (omega arith) ∙ grind (arith, nat_tests)) in
+    rw (here, others) refl
+ids_from-one rank (suc place) one (id ∷ all) members is inside only =
+    let here : is_member members rank ≡ false = only rank (omega arith) (omega arith) ∙ grind (arith, nat_tests) in
+    rw here (ids_from-one (rank + 1) place one all members (omega arith) (omega arith) (λ j above low. only j (omega arith) (omega arith)))
 
 -- the ids of the members from this rank on
 abbrev pub left_ids : ℕ → Mask → List NodeEntry → List ℕ

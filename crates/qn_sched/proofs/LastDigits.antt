@@ -1,18 +1,9 @@
--- The digits of a number but its last one.
-use Rattle.std.proofs.Common.{◌≡◌, ◌≤◌, ◌<◌, ◌+◌, ◌^◌, ◌/◌, ◌%◌, ◌++◌, ◌∷◌, [], ◌∙◌, ℕ, List, ap, append_assoc, arith, decimal, length, sym}
-use Rattle.std.proofs.lemmas.Fmt.{decimal_step, length-decimal-le}
-use Rattle.std.proofs.lemmas.Nat.{div_below}
-use Rattle.std.proofs.Math.Nat.{div-le_self}
+-- A number of which all digits but the last one are kept.
+use Rattle.std.proofs.Common.{◌≡◌, ◌≤◌, ◌<◌, ◌+◌, ◌^◌, ◌/◌, ◌%◌, ◌++◌, ◌∷◌, [], ◌∙◌, ℕ, List, ap, append_assoc, arith, decimal, sym}
+use Rattle.std.proofs.lemmas.Fmt.{decimal_step}
 
--- they are 19 at most
-pub tens_short : (n : ℕ) → n < 2 ^ 64 → length (decimal (n / 10)) ≤ 19
-tens_short n small =
-    let low : n / 10 ≤ n = div-le_self n 10 in
-    let below : n / 10 < 10 ^ 19 = div_below n 10 (10 ^ 19) (omega arith) (omega arith) in
-    length-decimal-le 19 (n / 10) (omega arith) below (omega arith)
-
--- the last one follows them
-pub with_last : (n : ℕ) (into : List ℕ) → 10 ≤ n → n < 2 ^ 64 → (into ++ decimal (n / 10)) ++ (48 + n % 10) ∷ [] ≡ into ++ decimal n
-with_last n into long small =
-    append_assoc into (decimal (n / 10)) ((48 + n % 10) ∷ [])
-    ∙ ap (λ (digits : List ℕ). into ++ digits) (sym (decimal_step n long small))
+-- the last digit, and a text behind it, follow them
+pub with_last : (n : ℕ) (rest : List ℕ) → 10 ≤ n → n < 2 ^ 64 → decimal (n / 10) ++ (48 + n % 10) ∷ rest ≡ decimal n ++ rest
+with_last n rest long small =
+    sym (append_assoc (decimal (n / 10)) ((48 + n % 10) ∷ []) rest)
+    ∙ ap (λ digits. digits ++ rest) (sym (decimal_step n long small))

@@ -1,3 +1,4 @@
+mod Around
 mod Binds
 mod ClockSpelling
 mod ClocksListed

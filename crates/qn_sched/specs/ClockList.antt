@@ -22,6 +22,11 @@ with_clock list clock =
 unfoldable pub finished : ClockList → Result (List (Rank × ℕ)) LineFault
 finished list = if list.is_sound then Ok list.clocks else Err BadCount
 
+-- what comes of the words, once they were judged to their end or to their first fault
+abbrev pub clocks_read : Result (Unit {0}) LineFault → ClockList → Result (List (Rank × ℕ)) LineFault
+clocks_read (Ok done) list = finished list
+clocks_read (Err fault) list = Err fault
+
 -- the words that are left, and then the end
 abbrev pub with_clocks : List ℕ → ClockList → List (List ℕ) → Result (List (Rank × ℕ)) LineFault
 with_clocks ids list [] = finished list

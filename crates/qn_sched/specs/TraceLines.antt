@@ -3,6 +3,7 @@ use Rattle.std.specs.Prelude.{ℕ, List, [], ◌∷◌, ◌++◌, Option, None, 
 use Rattle.std.specs.List.{join_with_byte}
 use Rattle.qn_base.specs.declared.ids.Mask.{Mask}
 use Rattle.qn_base.specs.declared.ids.Rank.{Rank}
+use Rattle.qn_base.specs.declared.ids.NodeId.{NodeId}
 use Rattle.qn_model.specs.declared.life.Why.{Why}
 use Rattle.qn_model.specs.declared.outputs.DiskOp.{DiskOp}
 use Rattle.qn_model.specs.declared.outputs.DiskOp.TheVariants as disk
@@ -19,6 +20,8 @@ use Rattle.qn_names.specs.AnswerTexts.{answer_text}
 use Rattle.qn_names.specs.CauseNumbers.{cause_number}
 use Rattle.qn_names.specs.MemberWords.{ids_from}
 use Rattle.qn_names.specs.WhyTexts.{why_text}
+use Rattle.qn_sched.specs.declared.holder.Holder.{Holder}
+use Rattle.qn_sched.specs.declared.holder.Holder.TheVariants as holder
 use Rattle.qn_sched.specs.EventLines.{id_word}
 
 -- a packet that is sent, before the `>` and the id of its receiver
@@ -66,9 +69,25 @@ outs_text ids outs = joined_or_dash 44 (map (out_word ids) outs)
 abbrev pub holders_text : List ℕ → Mask → List ℕ
 holders_text ids holders = joined_or_dash 43 (map decimal (ids_from 0 ids holders))
 
+-- the same, where at most one node holds
+abbrev pub holder_text : Holder → List ℕ
+holder_text holder.Nobody = codes "-"
+holder_text (holder.Node id) = decimal id.0
+
+-- the time of an event, after its number
+abbrev pub time_text : ℕ → List ℕ
+time_text time = codes " " ++ decimal time
+
 -- what stands after the holders in the line of a node
 abbrev pub end_text : Answer → Why → List ℕ
 end_text answer why = answer_text answer ++ codes " why=" ++ why_text why
+
+-- what stands before the outputs of a node, and after them where at most one node holds
+abbrev pub front_text : NodeId → List ℕ
+front_text id = codes " " ++ decimal id.0 ++ codes " "
+
+abbrev pub back_text : Holder → Answer → Why → List ℕ
+back_text holder answer why = codes " holders=" ++ holder_text holder ++ end_text answer why
 
 -- what stands after the outputs of a node
 abbrev pub state_text : List ℕ → Report → List ℕ

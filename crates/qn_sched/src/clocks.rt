@@ -2,6 +2,7 @@
 ghost use Rattle.std.specs.Prelude.{◌≡◌, ◌<◌, IfOk};
 ghost use Rattle.std.specs.Option.{option_copied};
 ghost use Rattle.qn_model.specs.Settings.{ids};
+ghost use Rattle.qn_sched.specs.ClockList.{clocks_read, no_clocks};
 ghost use Rattle.qn_sched.specs.EventReading.{clock_at, clock_of, clocks_of};
 ghost use Rattle.qn_sched.specs.Words.{parts_left};
 
@@ -13,19 +14,20 @@ use qn_model::{Clocks, LineFault, Nodes};
 
 /// The clocks of a pass while its words are judged one by one.
 #[derive(Drop)]
-struct ClockList {
-    clocks: Clocks,
+pub(crate) struct ClockList {
+    pub(crate) clocks: Clocks,
     /// The least rank that the next clock may have.
     next: u8,
     /// Whether every clock so far stands above the one before it.
-    is_sound: bool,
+    pub(crate) is_sound: bool,
 }
 
 impl ClockList {
     ghost use Rattle.std.specs.Prelude.{◌≡◌, ◌≤◌, ◌<◌, length};
-    ghost use Rattle.qn_sched.specs.ClockList.{finished, no_clocks, with_clock};
+    ghost use Rattle.qn_sched.specs.ClockList.{no_clocks, with_clock};
 
-    fn new() -> Self
+    /// No clock was read yet.
+    pub(crate) fn new() -> Self
         ensures { result ≡ no_clocks }
     {
         ClockList {
@@ -50,33 +52,27 @@ impl ClockList {
             self.is_sound = false;
         }
     }
-
-    /// The clocks, where no word is left.
-    #[tactic(auto, unfolding(crate::specs::ClockList::finished))]
-    fn finished(self) -> Result<Clocks, LineFault>
-        ensures { result ≡ finished self }
-    {
-        if self.is_sound {
-            Ok(self.clocks)
-        } else {
-            Err(LineFault::BadCount)
-        }
-    }
 }
 
-/// The clocks of a pass of which these words are left. The first fault from left to right is named; BadCount
-/// where the ids do not ascend strictly comes after the faults of the words.
-pub(crate) fn read_clocks(nodes: &Nodes, words: Option<&[u8]>) -> Result<Clocks, LineFault>
-    ensures { result ≡ clocks_of (ids nodes.now) (parts_left 32 (option_copied words.entry)) }
+/// Adds the clocks of a pass of which these words are left to a list that has none. The first fault from left to right is
+/// named; that the ids do not ascend strictly comes after the faults of the words, and is said by the list.
+#[tactic(auto, unfolding(crate::specs::ClockList::finished))]
+pub(crate) fn read_clocks(
+    nodes: &Nodes,
+    words: Option<&[u8]>,
+    list: &mut ClockList,
+) -> Result<(), LineFault>
+    requires { list.old ≡ no_clocks }
+    ensures { clocks_read result list.new
+        ≡ clocks_of (ids nodes.now) (parts_left 32 (option_copied words.entry)) }
 {
-    let mut list = ClockList::new();
     let mut rest = words;
     'words: while let Some(text) = rest {
         let (word, more) = first_part(text, b' ');
         list.add(read_clock(nodes, word)?);
         rest = more;
     }
-    list.finished()
+    Ok(())
 }
 
 /// A clock, `ID=ADVANCE`.

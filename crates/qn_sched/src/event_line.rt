@@ -8,7 +8,7 @@ ghost use Rattle.qn_sched.specs.EventLines.{event_line};
 ghost use Rattle.qn_sched.specs.EventReading.{boot_clean_of, boot_of, deliver_of, device_of, event_named, event_of, filled_in, late_of, message_worded, node_event_of, numbered_of, operator_of, pass_of, view_of, yes_or_no};
 ghost use Rattle.qn_sched.specs.Words.{parts_left};
 
-use crate::clocks::read_clocks;
+use crate::clocks::{ClockList, read_clocks};
 use crate::event_name::{EventName, NodeEvent, event_name};
 use crate::members::{known_rank, read_members};
 use crate::numbers::number_between;
@@ -34,6 +34,7 @@ pub fn read_line(line: &[u8], settings: &Settings) -> Result<Event, LineFault>
 }
 
 /// The same as `read_line`, with the event written over one that is there. What it holds after a fault is not said.
+#[inline(always)]
 pub fn read_line_into(line: &[u8], settings: &Settings, into: &mut Event) -> Result<(), LineFault>
     requires { IsValid settings.now }
     ensures first_fault { filled_in result into.new ≡ event_of (ids settings.now.nodes) line.now }
@@ -44,6 +45,7 @@ pub fn read_line_into(line: &[u8], settings: &Settings, into: &mut Event) -> Res
     read_event(line, &settings.nodes, into)
 }
 
+#[inline(always)]
 #[tactic(auto, unfolding(crate::specs::EventReading::event_of, crate::specs::EventReading::event_of_words))]
 fn read_event(line: &[u8], nodes: &Nodes, into: &mut Event) -> Result<(), LineFault>
     ensures { filled_in result into.new ≡ event_of (ids nodes.now) line.now }
@@ -57,6 +59,7 @@ fn read_event(line: &[u8], nodes: &Nodes, into: &mut Event) -> Result<(), LineFa
 }
 
 /// An event by what the first word of its line says.
+#[inline(always)]
 #[tactic(auto, unfolding(crate::specs::EventReading::event_named))]
 fn read_named(
     name: EventName,
@@ -83,14 +86,19 @@ fn read_named(
 /// Reads the words of a pass after its first: `DT` and then any clocks. BadCount where there is no word; then the fault
 /// of the first word from left to right, and last BadCount where the clocks do not ascend strictly. What `into`
 /// holds after a fault is not said.
-#[tactic(auto, unfolding(crate::specs::EventReading::pass_of))]
+#[tactic(auto, unfolding(crate::specs::EventReading::pass_of, crate::specs::ClockList::finished))]
 pub fn read_pass(nodes: &Nodes, rest: Option<&[u8]>, into: &mut Event) -> Result<(), LineFault>
     ensures { filled_in result into.new
         ≡ pass_of (ids nodes.now) (parts_left 32 (option_copied rest.entry)) }
 {
     let (first, rest) = next_word(rest)?;
     let dt = number_between(1, 1_000_000_000, first)?;
-    let clocks = read_clocks(nodes, rest)?;
+    let mut list = ClockList::new();
+    read_clocks(nodes, rest, &mut list)?;
+    if !list.is_sound {
+        return Err(LineFault::BadCount);
+    }
+    let clocks = list.clocks;
     *into = Event::Pass { dt, clocks };
     Ok(())
 }

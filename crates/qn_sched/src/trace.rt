@@ -3,8 +3,9 @@ ghost use Rattle.std.specs.Prelude.{◌≡◌, ◌≤◌, ◌+◌, ◌*◌, ◌+
 ghost use Rattle.qn_model.specs.Messages.{message_name};
 ghost use Rattle.qn_model.specs.Settings.{ids};
 ghost use Rattle.qn_sched.specs.EventLines.{id_word};
-ghost use Rattle.qn_sched.specs.TraceLines.{disk_word, halt_word, holders_text, out_word, outs_text, packet_word, state_text, touched_text, touched_with, trace_line, trace_line_with};
+ghost use Rattle.qn_sched.specs.TraceLines.{disk_word, halt_word, holders_text, out_word, outs_text, packet_word, state_text, time_text, touched_text, touched_with, trace_line, trace_line_with};
 
+use crate::kept_beginning::add_beginning;
 use crate::text::{add_id, add_joined, member_ids};
 use arrayvec::ArrayVec;
 use qn_base::{Mask, Rank, add, add_number};
@@ -51,13 +52,11 @@ pub fn write_trace_with(
 
 /// Empties `into` and writes the number of an event and its time.
 fn begin_line(number: u64, time: u64, into: &mut ArrayVec<u8, 4096>)
-    ensures text { into.new.items ≡ decimal number ++ codes " " ++ decimal time }
+    ensures text { into.new.items ≡ decimal number ++ time_text time }
     ensures len { length into.new.items ≤ 50 }
 {
     into.clear();
-    add_number(into, number);
-    add(into, b" ");
-    add_number(into, time);
+    add_beginning(into, number, time);
 }
 
 /// Adds what stands after the time where no node is touched, with this text in place of a node and its outputs.
@@ -80,7 +79,8 @@ pub(crate) fn add_untouched(
 }
 
 /// Adds what stands after the time at an event of a node.
-fn add_touched(into: &mut ArrayVec<u8, 4096>, nodes: &Nodes, report: &Report, rank: Rank)
+#[inline(never)]
+pub(crate) fn add_touched(into: &mut ArrayVec<u8, 4096>, nodes: &Nodes, report: &Report, rank: Rank)
     requires { length into.old.items ≤ 100 }
     ensures text { into.new.items
         ≡ into.old.items ++ touched_text (ids nodes.now) report.now (Some rank) }
@@ -150,7 +150,7 @@ fn add_holder_ids(into: &mut ArrayVec<u8, 4096>, nodes: &Nodes, holders: Mask)
 
 /// Adds the outputs, or a dash.
 pub(crate) fn add_outs(into: &mut ArrayVec<u8, 4096>, nodes: &Nodes, outs: &Outs)
-    requires { length into.old.items ≤ 200 }
+    requires { length into.old.items ≤ 300 }
     ensures text { into.new.items ≡ into.old.items ++ outs_text (ids nodes.now) outs.now }
     ensures len { length into.new.items ≤ length into.old.items + 1640 }
 {
@@ -189,22 +189,23 @@ fn add_send(into: &mut ArrayVec<u8, 4096>, nodes: &Nodes, rank: Rank, packet: Pa
         ≡ into.old.items ++ (packet_word packet ++ codes ">" ++ id_word (ids nodes.now) rank) }
     ensures len { length into.new.items ≤ length into.old.items + 40 }
 {
-    add(into, packet_name(packet).as_bytes());
-    add(into, b">");
+    add_packet(into, packet);
     add_id(into, nodes, rank);
 }
 
-fn packet_name(packet: Packet) -> &'static str
-    ensures word { result.now ≡ packet_word packet }
-    ensures len { length result.now ≤ 9 }
+/// Adds what stands before the id of the receiver of a packet.
+fn add_packet(into: &mut ArrayVec<u8, 4096>, packet: Packet)
+    requires { length into.old.items ≤ 4000 }
+    ensures text { into.new.items ≡ into.old.items ++ (packet_word packet ++ codes ">") }
+    ensures len { length into.new.items ≤ length into.old.items + 10 }
 {
     match packet {
-        Packet::Ask(_) => "ask",
-        Packet::Tell(_) => "tell",
-        Packet::Hello { .. } => "hello",
-        Packet::Announce { .. } => "announce",
-        Packet::Vote { .. } => "vote",
-        Packet::Heard { .. } => "heard",
+        Packet::Ask(_) => add(into, b"ask>"),
+        Packet::Tell(_) => add(into, b"tell>"),
+        Packet::Hello { .. } => add(into, b"hello>"),
+        Packet::Announce { .. } => add(into, b"announce>"),
+        Packet::Vote { .. } => add(into, b"vote>"),
+        Packet::Heard { .. } => add(into, b"heard>"),
     }
 }
 

@@ -19,7 +19,7 @@ use Rattle.qn_joined.specs.WorldOf.{HasWorld}
 use Rattle.qn_service.specs.Between.{HasMoments, IsOfJoint, MomentsAreOfJoints}
 
 -- moments stay, or there is one more
-data Added (old : List Moment) : List Moment → Type 0 where
+pub data Added (old : List Moment) : List Moment → Type 0 where
   NoneMore : Added old old
   OneMore : (newest : Moment) → Added old (newest ∷ old)
 
@@ -64,7 +64,7 @@ step_adds s t (event.Feed rank) w = OneMore _
 step_adds s t (event.Operator rank message) w = NoneMore
 
 -- one event at most adds one moment at most
-one_adds : (s : Settings) (t : Timing) {P : Option Event → Type 0} (events events' : List Event) → AddsOne P events events' → Added (run s t events).moments (run s t events').moments
+pub one_adds : (s : Settings) (t : Timing) {P : Option Event → Type 0} (events events' : List Event) → AddsOne P events events' → Added (run s t events).moments (run s t events').moments
 unfolding run
 one_adds s t events events' one = subst (λ e. Added (run s t events).moments (run s t e).moments) (sym one.grew) (by_event one.event)
   where
@@ -72,12 +72,12 @@ one_adds s t events events' one = subst (λ e. Added (run s t events).moments (r
     by_event None = NoneMore
     by_event (Some e) = step_adds s t e (run s t events)
 
-grown : {old new : List Moment} → Added old new → Before old new
+pub grown : {old new : List Moment} → Added old new → Before old new
 grown NoneMore = Itself
 grown (OneMore newest) = Later newest Itself
 
 -- what is before the newer moments is the newer ones, or is before the older ones
-split_at : {old new moments : List Moment} → Added old new → Before moments new → (new ≡ moments) ⊎ Before moments old
+pub split_at : {old new moments : List Moment} → Added old new → Before moments new → (new ≡ moments) ⊎ Before moments old
 split_at NoneMore back = inr back
 split_at (OneMore newest) Itself = inl refl
 split_at (OneMore newest) (Later other back) = inr back

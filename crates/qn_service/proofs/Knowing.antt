@@ -74,6 +74,10 @@ module _ (s : Settings) (me : ℕ) (Q : View → Type 0) where
   first_known loop_ms =
       record { nodes = refl; own = refl; present = λ v is. absurd (none-some v is); announced = λ rank v is member. absurd (nothing_known 32 rank v is) }
 
+  if_known : (b : Bool) (one other : NamingMaker) → IsKnown one.maker → IsKnown other.maker → IsKnown (if b then one else other).maker
+  if_known true one other first second = first
+  if_known false one other first second = second
+
   stand_known : (standing : Standing) (holds : Bool) (m : NamingMaker) → IsKnown m.maker → IsKnown (after_stand standing holds m).maker
   stand_known standing holds m known = subst IsKnown (sym (if_maker (is_configured m.maker m.maker.me) _ m m.maker refl refl)) known
 
@@ -99,7 +103,9 @@ module _ (s : Settings) (me : ℕ) (Q : View → Type 0) where
   plain_hello_by false tick from m known = known
 
   standing_known : (from : ℕ) (standing : Standing) (m : NamingMaker) → IsKnown m.maker → IsKnown (after_standing from standing m).maker
-  standing_known from standing m known = subst IsKnown (sym (if_maker (is_other m from && has_bit standing.flags knows_bit) _ m m.maker refl refl)) known
+  standing_known from standing m known =
+      if_known (is_other m from && has_bit standing.flags knows_bit) _ m
+      (record { nodes = known.nodes; own = known.own; present = known.present; announced = known.announced }) known
 
   announce_by : (b : Bool) (from : ℕ) (view : View) (k : Maker) → IsKnown k → (is_member view.members from ≡ true → Q view)
       → IsKnown (if b then record k { hellos = maker.hellos_after from view k; announced = slice_set k.announced from (Some view); greatest = Rattle.std.proofs.Common.max k.greatest (Rattle.qn_candidate.specs.Numbers.without_name view.id) } else k)

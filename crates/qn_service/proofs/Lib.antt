@@ -1,21 +1,32 @@
 pub mod Between
 pub mod ByTheImage
+pub mod Company
+pub mod Counting
 pub mod Early
 pub mod Everywhere
+pub mod Followers
 pub mod GoingOn
+pub mod Handing
 pub mod Heard
 pub mod Holders
 pub mod Holding
 pub mod KeptLoops
+pub mod KeptViews
 pub mod Knowing
 pub mod Least
 pub mod LeftOut
 pub mod Made
+pub mod NextLooks
 pub mod OneStop
 pub mod Outside
+pub mod Owner
 pub mod Ranks
 pub mod Resets
 mod Rows
+pub mod ServedBy
+mod ServingRows
+pub mod Steps
 pub mod Timing
+pub mod Tracing
 pub mod Walking
-mod WellRows
+pub mod WellRows

@@ -16,6 +16,7 @@ use Rattle.qn_model.specs.World.{failed}
 use Rattle.qn_sector.specs.Reading.{header_in, mail_of, slot_of}
 use Rattle.qn_candidate.specs.Candidate.{heaviest}
 use Rattle.qn_member.specs.Maker.{ranks_that, with_ranks}
+use Rattle.qn_member.specs.Naming.{least_sure}
 use Rattle.qn_member.specs.NamingViews.{after_found, after_look, answer_at, view_found}
 use Rattle.qn_wire.specs.Packets.{packet_bytes}
 use Rattle.qn_live.specs.Choosing.{choice_plan}
@@ -119,7 +120,7 @@ newest ▸ earlier = (newest, earlier)
 
 -- what the rows compute with
 unfoldable row_steps : Bool
-unfolding node_steps heaviest log_from header_bytes_in mail_bytes slot_bytes header_in mail_of slot_of failed ranks_that with_ranks view_found after_found answer_at after_look choice_plan sends_plan disk_call done out_call outs_plan waits_after clocked greeted handled settled live_plan parted run_plan left_plan after_spot returned looked_first happens joint_after AllMayHappen packet_bytes
+unfolding node_steps heaviest log_from header_bytes_in mail_bytes slot_bytes header_in mail_of slot_of failed ranks_that with_ranks least_sure view_found after_found answer_at after_look choice_plan sends_plan disk_call done out_call outs_plan waits_after clocked greeted handled settled live_plan parted run_plan left_plan after_spot returned looked_first happens joint_after AllMayHappen packet_bytes
 row_steps = true
 
 boots_may : MayBe boots

@@ -1,5 +1,5 @@
 -- A joined run in which a node that is alone starts its resource, and goes on running it.
-use Rattle.std.proofs.Common.{◌<◌, ℕ, suc, zero, Bool, true, false, List, [], ◌∷◌, ◌++◌, ◌+◌, ◌==◌, None, if◌then◌else◌, refl, subst, arith}
+use Rattle.std.proofs.Common.{◌<◌, ℕ, suc, zero, Bool, true, false, List, [], ◌∷◌, ◌++◌, ◌==◌, None, if◌then◌else◌, refl, subst, arith}
 use Rattle.qn_base.specs.declared.calls.Call.TheVariants as call
 use Rattle.qn_base.specs.declared.calls.Received.TheVariants as received
 use Rattle.qn_model.specs.declared.times.Timing.{Timing}
@@ -14,6 +14,7 @@ use Rattle.qn_model.specs.World.{failed}
 use Rattle.qn_sector.specs.Reading.{header_in, mail_of, slot_of}
 use Rattle.qn_candidate.specs.Candidate.{heaviest}
 use Rattle.qn_member.specs.Maker.{ranks_that, with_ranks}
+use Rattle.qn_member.specs.Naming.{least_sure}
 use Rattle.qn_member.specs.NamingViews.{after_found, after_look, answer_at, view_found}
 use Rattle.qn_live.specs.Choosing.{choice_plan}
 use Rattle.qn_live.specs.Greetings.{sends_plan}
@@ -24,20 +25,20 @@ use Rattle.qn_joined.specs.Stands.{after_spot, left_plan}
 use Rattle.qn_joined.specs.Joints.{AllMayHappen, Begins, FitsImage, Happening, IsNewImage, Lands, Looks, Passes, Returns, happens, joint_after, looked_first, returned}
 use Rattle.qn_service.specs.Between.{MayOwn, OwnerIsWell}
 
-abbrev quick_ticks : Timing
+abbrev pub quick_ticks : Timing
 quick_ticks = record { watchdog = 1000; msgwait = 1100; loop_ms = 1; read_limit = 10; feed_delay = 10 }
 
-abbrev fresh_image : ℕ → List ℕ
+abbrev pub fresh_image : ℕ → List ℕ
 fresh_image sector =
     if sector == 0 then header_bytes 1 quick_ticks
     else (if sector == slot_place 0 then slot_bytes 1 (record { incarnation = 0; clean = true }) else mail_bytes (anonymous message.Empty))
 
-below_one : (P : ℕ → Type 0) → P 0 → (rank : ℕ) → rank < 1 → P rank
+pub below_one : (P : ℕ → Type 0) → P 0 → (rank : ℕ) → rank < 1 → P rank
 below_one P one zero below = one
 below_one P one (suc rank) below = absurd (omega arith)
 
 -- Each list stands newest first. The node boots, is up, has a view of itself, and starts.
-abbrev starts_then : List Happening
+abbrev pub starts_then : List Happening
 starts_then =
     Returns 0 (call.Now 0)
     ∷ Returns 0 (call.Receive received.Nothing)
@@ -62,14 +63,14 @@ starts_then =
     ∷ Returns 0 (call.Read 0 (header_bytes 1 quick_ticks) true)
     ∷ Lands 0
     ∷ Looks 0 0
-    ∷ Begins 0 false None None 20
+    ∷ Begins 0 false None None 40
     ∷ []
 
 -- its start returns, a loop passes, and it looks again
 abbrev goes_on_then : List Happening
 goes_on_then = Returns 0 (call.Now 1) ∷ Returns 0 (call.Receive received.Nothing) ∷ Passes 1 [] ∷ Returns 0 (call.Start true) ∷ []
 
-abbrev MayBe : List Happening → Type 0
+abbrev pub MayBe : List Happening → Type 0
 MayBe happenings = AllMayHappen one_node quick_ticks fresh_image happenings
 
 infixr 5 ◌▸◌
@@ -77,11 +78,11 @@ infixr 5 ◌▸◌
 newest ▸ earlier = (newest, earlier)
 
 -- what the rows compute with
-unfoldable row_steps : Bool
-unfolding node_steps heaviest log_from header_bytes_in mail_bytes slot_bytes header_in mail_of slot_of failed ranks_that with_ranks view_found after_found answer_at after_look choice_plan sends_plan disk_call done out_call outs_plan waits_after clocked greeted handled settled live_plan parted run_plan left_plan after_spot returned looked_first happens joint_after AllMayHappen
+unfoldable pub row_steps : Bool
+unfolding node_steps heaviest log_from header_bytes_in mail_bytes slot_bytes header_in mail_of slot_of failed ranks_that with_ranks least_sure view_found after_found answer_at after_look choice_plan sends_plan disk_call done out_call outs_plan waits_after clocked greeted handled settled live_plan parted run_plan left_plan after_spot returned looked_first happens joint_after AllMayHappen
 row_steps = true
 
-starts_may : MayBe starts_then
+pub starts_may : MayBe starts_then
 unfolding row_steps
 starts_may =
     record { on = refl; asked = refl; waits = refl; answer = refl; spells = refl } ▸
@@ -119,10 +120,10 @@ goes_on_may =
     record { on = refl; asked = refl; waits = refl; answer = tt; spells = refl } ▸
     starts_may
 
-image_fits : FitsImage one_node quick_ticks
+pub image_fits : FitsImage one_node quick_ticks
 image_fits = record { some = omega arith; few = omega arith; times = refl; ids = below_one _ (omega arith, omega arith) }
 
-image_is_new : IsNewImage one_node quick_ticks fresh_image
+pub image_is_new : IsNewImage one_node quick_ticks fresh_image
 image_is_new = record { header = refl; slots = below_one _ refl; mails = below_one _ refl }
 
 -- each of five joints

@@ -1,5 +1,5 @@
 -- The moments between the worlds of two joints, and an owner that is well. This project's profile.
-use Rattle.std.specs.Prelude.{◌≡◌, ◌⊎◌, ◌≤◌, ℕ, true, false, List, ◌++◌, length}
+use Rattle.std.specs.Prelude.{◌≡◌, ◌≤◌, ℕ, true, false, List, ◌++◌, length}
 use Rattle.qn_model.specs.declared.configuration.Settings.{Settings}
 use Rattle.qn_model.specs.declared.events.Event.{Event}
 use Rattle.qn_model.specs.declared.life.Phase.TheVariants.{Up}
@@ -61,7 +61,7 @@ OwnersGoOn s t =
     → runs_at s image older rank ≡ true
     → stop_due (log_after s image older rank) ≡ false
     → ((mid : List Happening) → Before older mid → Before mid (newer ++ older) → MayOwn s image rank mid)
-    → (runs_at s image (newer ++ older) rank ≡ true) ⊎ (stop_due (log_after s image (newer ++ older) rank) ≡ true)
+    → runs_at s image (newer ++ older) rank ≡ true
 
 -- the premises are met: in some joined run with safe times an owner is so, and its run goes on
 pub record OwnerIsWell : Type 0 where

@@ -1,7 +1,10 @@
 pub mod Between
+pub mod Company
 pub mod Heard
 pub mod Holders
 pub mod Leading
 pub mod Looks
 pub mod Loops
+pub mod NextLooks
+pub mod Serving
 pub mod Unheard

@@ -4,23 +4,33 @@
 //! were in a joined run, and `specs/Unheard` which machines are reset. Promises: a look makes a view or takes one that its leader
 //! announced (`law_made_or_taken`); who is the least member of such a view made it, where not all know names
 //! (`law_least_members_made_it`); a view of a leader stays while its company does (`law_views_stay`); and who is left out of a view
-//! was not in company of its maker, and no member of which a Hello came was left out before three loops (`law_left_out`). So a
+//! was not in company of its maker, and no member of which a Hello came was left out before three loops (`law_left_out`). A
+//! company that a leader finds for a loop is its view (`law_company_is_view`), and a node takes the view that its leader announced
+//! (`law_followers_take_it`), where all know names. So a
 //! machine is reset only where the maker of the view left it out (`law_resets_the_unheard`), and none is while each leader finds
 //! all others in company (`law_nobody_is_reset`). The rules are met by a run in which a reset is asked for (`law_reset_is_met`).
 //!
 //! By the worlds of joined runs: each look is by the loop's time of the image (`law_looks_by_the_image`), so nobody is reset while each
 //! leader hears all others within three loops of it (`law_nobody_heard_is_reset`). What a log holds runs, or a Stop of it is unanswered
 //! (`law_holders_run`). What is said of each joint is said of each moment between (`law_moments_are_of_joints`), so an owner that is
-//! well goes on running its resource (`law_owners_go_on`), as one does in a run that is given (`law_owner_is_well`).
+//! well goes on running its resource (`law_owners_go_on`), as one does in a run that is given (`law_owner_is_well`). From look to look
+//! a running node keeps what it has of its view (`law_looks_follow`), so a company that it finds for a loop is its view
+//! (`law_companies_settle`). A majority whose nodes have one view has an owner within the time of a take-over, and at each joint after it
+//! (`law_members_serve`), as in a run that is given (`law_members_are_met`).
 #![tactic(auto)]
 
 mod laws;
 mod looks;
 mod owners;
+mod serving;
 
 pub use laws::{law_nobody_is_reset, law_reset_is_met, law_resets_the_unheard};
-pub use looks::{law_least_members_made_it, law_left_out, law_made_or_taken, law_views_stay};
+pub use looks::{
+    law_company_is_view, law_followers_take_it, law_least_members_made_it, law_left_out,
+    law_made_or_taken, law_views_stay,
+};
 pub use owners::{
     law_holders_run, law_looks_by_the_image, law_moments_are_of_joints, law_nobody_heard_is_reset,
     law_owner_is_well, law_owners_go_on,
 };
+pub use serving::{law_companies_settle, law_looks_follow, law_members_are_met, law_members_serve};

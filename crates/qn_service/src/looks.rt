@@ -1,10 +1,13 @@
 //! The laws of one look of a view maker.
 ghost use Rattle.std.specs.Prelude.{◌≡◌, ◌⊎◌, ◌<◌, ℕ, None, Some, false, length, true};
+ghost use Rattle.std.specs.Option.{option_map};
+ghost use Rattle.qn_base.specs.declared.ids.Mask.{Mask};
 ghost use Rattle.qn_base.specs.declared.ids.View.{View};
 ghost use Rattle.qn_base.specs.Members.{is_member};
 ghost use Rattle.qn_member.specs.Maker.{is_present, least_of};
 ghost use Rattle.qn_member.specs.Naming.{NamingMaker};
 ghost use Rattle.qn_member.specs.NamingViews.{after_look, is_named_anew, looked_by_name, view_found, view_of};
+ghost use Rattle.qn_service.specs.Company.{IsLedByName, IsSettled};
 ghost use Rattle.qn_service.specs.Leading.{LeavesOut, MakesView, TakesView, company_then, leader_then, names_then};
 
 /// Law: a view that a look gives was made by it, and its node leads; or it is the view that its leader announced last, and has both
@@ -51,4 +54,20 @@ pub fn law_left_out()
         → MakesView tick m view
         → is_member view.members rank ≡ false
         → LeavesOut tick m rank }
+{}
+
+/// Law: where each look from one on found the same company at a node that knows names, and gave no view but of it, the members of its view
+/// are this company at the first look that is a loop later, where the node leads, a view may be installed and nobody is in dispute.
+pub fn law_company_is_view()
+    ensures { (company : Mask) (since tick : ℕ) (m : NamingMaker)
+        → IsSettled company since tick m
+        → option_map (λ view. view.members) (after_look tick m).maker.view ≡ Some company }
+{}
+
+/// Law: a node that knows names and has another one as its leader has the view that this announced last, where that has both of them and is
+/// newer, or its leader led for a loop.
+pub fn law_followers_take_it()
+    ensures { (tick : ℕ) (m : NamingMaker) (leader : ℕ) (view : View)
+        → IsLedByName tick m leader view
+        → (after_look tick m).maker.view ≡ Some view }
 {}

@@ -44,13 +44,14 @@ pub fn law_moments_are_of_joints()
 }
 
 /// Law: an owner of which no Stop is unanswered goes on running its resource while at each joint its machine is on, and its node is up and
-/// quorate and has a view that neither names another member nor bars all; or a Stop of it is unanswered at last.
+/// quorate and has a view that neither names another member nor bars all.
 pub fn law_owners_go_on()
     ensures { (s : Settings) (t : Timing) → OwnersGoOn s t }
 {
     qn_joined::law_worlds();
     qn_joined::law_owned();
     qn_progress::law_holder_holds();
+    qn_progress::law_keeper_is_calm();
     law_moments_are_of_joints();
     law_holders_run();
 }

@@ -6,8 +6,8 @@ use std::fmt::Write;
 
 /// What an image may be, wherever a command takes one.
 const IMAGE: &str =
-    "an image is a file's PATH, nbd:HOST:PORT, nbd:HOST:PORT/NAME or nbd:unix:PATH, each perhaps with @4096 after it, \
-                     or etcd:HOST:PORT/PREFIX";
+    "an image is a file's PATH, nbd:HOST:PORT, nbd:HOST:PORT/NAME, nbd:unix:PATH or nbd:unix:PATH:exportname=NAME, \
+                     each perhaps with @4096 after it, or etcd:HOST:PORT/PREFIX";
 
 /// What `--help` writes: what the program is, two lines a command, what an image may be, and the words that may stand before each command,
 /// where it has some.

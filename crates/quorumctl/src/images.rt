@@ -4,9 +4,10 @@ use crate::open_image::OpenImage;
 use crate::texts::say_fault;
 use crate::trouble::{Trouble, say};
 use qn_base::{NodeId, read_decimal};
+use qn_conf::read_tree;
 use qn_control::{
-    Finding, ImageSeen, NodeSeen, Sectors, check_json, finding_lines, list_json, look_at_image,
-    node_lines,
+    Finding, ImageSeen, NetworksSeen, NodeSeen, Sectors, check_json, finding_lines, list_json,
+    look_at_image, look_at_networks, network_lines, node_lines,
 };
 use qn_machine::steady_time;
 use qn_model::{Mail, Message, Settings, Slot, Timing};
@@ -30,30 +31,43 @@ const UNKNOWN_NODE: u8 = 16;
 /// Milliseconds between two looks at a mailbox.
 const LOOK: u64 = 100;
 
-/// `check`: what is wrong with an image, and whether it fits the settings on standard input, where there are any.
+/// `check`: what is wrong with an image, whether it fits the settings on standard input, where there are any, and where the nodes are on each of two
+/// networks. The status is by the image alone.
 pub fn check<
     R: Files<File = File> + Net<Stream = TcpStream> + Clock + Input + Print + Eprint + AllocGlobal,
 >(rt: &R, path: &str, is_json: bool) -> Result<u8, Trouble> {
     let text = read_input(rt)?;
     if text.is_empty() {
-        return check_by(rt, path, is_json, None);
+        return check_by(rt, path, is_json, None, &NetworksSeen::One);
     }
-    match settings_of_text(rt.alloc(), text.as_slice()) {
-        Ok(settings) => check_by(rt, path, is_json, Some(&settings)),
+    let alloc = rt.alloc();
+    match settings_of_text(alloc, text.as_slice()) {
+        Ok(settings) => {
+            let tree = read_tree(alloc, text.as_slice()).map_err(|_| Trouble::NoMemory)?;
+            let networks = look_at_networks(alloc, &settings, &tree)?;
+            check_by(rt, path, is_json, Some(&settings), &networks)
+        }
         Err(fault) => say_fault(rt, text.as_slice(), &fault),
     }
 }
 
-/// Says what is wrong with an image, by the settings where there are any.
+/// Says what is wrong with an image, by the settings where there are any, and what their text says of two networks.
 fn check_by<R: Files<File = File> + Net<Stream = TcpStream> + Clock + Print + Eprint + AllocGlobal>(
     rt: &R,
     path: &str,
     is_json: bool,
     settings: Option<&Settings>,
+    networks: &NetworksSeen,
 ) -> Result<u8, Trouble> {
     let mut image = OpenImage::open(rt, path)?;
     let seen = look_at_image(rt.alloc(), &mut image, settings)?;
-    say(rt, check_text(rt.alloc(), &seen, is_json)?.as_str())?;
+    let alloc = rt.alloc();
+    let text = if is_json {
+        check_json(alloc, &seen, networks)?
+    } else {
+        check_lines(alloc, &seen, networks)?
+    };
+    say(rt, text.as_str())?;
     let status = status_of(seen.findings.as_slice());
     if status == WRONG {
         let _ = eprintln!(rt;
@@ -74,11 +88,11 @@ fn status_of(findings: &[Finding]) -> u8 {
     }
 }
 
-/// Whether a finding is a fault of the image: that a take-over has no bound is a warning, and keeps no node from its start, and so is a short feed
-/// delay, but for one beside which no feed is in time.
+/// Whether a finding is a fault of the image: that a take-over has no bound is a warning, and keeps no node from its start, and so are a time below an
+/// election and a short feed delay, but for one beside which no feed is in time.
 fn is_wrong(finding: &Finding) -> bool {
     match finding {
-        Finding::NoBound { .. } | Finding::Tail { .. } => false,
+        Finding::NoBound { .. } | Finding::BelowElection { .. } | Finding::Tail { .. } => false,
         Finding::ShortFeedDelay { short } => short.allows_none(),
         Finding::Unreadable { .. }
         | Finding::NotImage
@@ -97,12 +111,15 @@ fn is_behind(finding: &Finding) -> bool {
     matches!(finding, Finding::Tail { .. })
 }
 
-/// The nodes of an image, and what is wrong with it.
-fn check_text(alloc: Global, seen: &ImageSeen, is_json: bool) -> Result<String, AllocError> {
-    if is_json {
-        return check_json(alloc, seen);
-    }
+/// The nodes of an image, the networks, and what is wrong with the image.
+fn check_lines(
+    alloc: Global,
+    seen: &ImageSeen,
+    networks: &NetworksSeen,
+) -> Result<String, AllocError> {
     let mut lines = node_lines(alloc, seen.nodes.as_slice())?;
+    let of_networks = network_lines(alloc, networks)?;
+    lines.push_str(of_networks.as_str())?;
     let findings = finding_lines(alloc, seen)?;
     lines.push_str(findings.as_str())?;
     Ok(lines)

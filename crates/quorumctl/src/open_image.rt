@@ -8,6 +8,9 @@ use std::net::{Net, TcpStream};
 use std::rt::Files;
 use std::time::Clock;
 
+/// What the word of an image in an etcd cluster begins with.
+const CLUSTER: &str = "etcd:";
+
 /// How many sectors can be asked for.
 const SECTORS: u32 = 3072;
 
@@ -18,6 +21,7 @@ pub struct OpenImage<
     R: Files<File = File> + Net<Stream = TcpStream> + Clock + Eprint + AllocGlobal,
 > {
     reader: ImageReader<'r, R>,
+    is_in_cluster: bool,
 }
 
 impl<'r, R: Files<File = File> + Net<Stream = TcpStream> + Clock + Eprint + AllocGlobal> OpenImage<
@@ -27,7 +31,10 @@ impl<'r, R: Files<File = File> + Net<Stream = TcpStream> + Clock + Eprint + Allo
     /// Opens the image of that word for reading alone, which makes none.
     pub fn open(rt: &'r R, word: &str) -> Result<OpenImage<'r, R>, Trouble> {
         match ImageReader::open(rt, word) {
-            Ok(reader) => Ok(OpenImage { reader }),
+            Ok(reader) => Ok(OpenImage {
+                reader,
+                is_in_cluster: word.starts_with(CLUSTER),
+            }),
             Err(error) => Err(Trouble::of_file(rt.alloc(), word, error)),
         }
     }
@@ -48,5 +55,9 @@ impl<'r, R: Files<File = File> + Net<Stream = TcpStream> + Clock + Eprint + Allo
 
     fn bytes_behind(&self, sectors: u64) -> u64 {
         self.reader.bytes_behind(sectors)
+    }
+
+    fn have_elections(&self) -> bool {
+        self.is_in_cluster
     }
 }

@@ -7,9 +7,10 @@ use crate::trouble::{Trouble, say};
 use qn_base::{LONGEST_PERIOD, read_decimal};
 use qn_conf::read_tree;
 use qn_control::{
-    TextConcern, concerns_of, device_concerns_of, differences_of, has_byte_order_mark,
-    least_msgwait, lines_of_key, longest_take_over, networks_told, node_concerns_of, pairs_of,
-    settings_text, slowest_disk, text_concerns_of, unbounded_on, wrong_lines,
+    NetworksSeen, TextConcern, concerns_of, device_concerns_of, differences_of,
+    has_byte_order_mark, least_msgwait, lines_of_key, longest_take_over, look_at_networks,
+    network_lines, node_concerns_of, pairs_of, settings_text, slowest_disk, text_concerns_of,
+    unbounded_on, wrong_lines,
 };
 use qn_exchange::ShortFeedDelay;
 use qn_links::{NodeSection, StandingFault, sections_of, standing_of};
@@ -68,8 +69,8 @@ fn say_settings(
     }
     let lines = settings_text(alloc, settings, pairs)?;
     say(rt, lines.as_str())?;
-    let networks = networks_told(alloc, settings, &tree)?;
-    say(rt, networks.lines.as_str())?;
+    let networks = look_at_networks(alloc, settings, &tree)?;
+    say(rt, network_lines(alloc, &networks)?.as_str())?;
     let concerns = concerns_of(alloc, settings, pairs)?;
     let of_nodes = node_concerns_of(alloc, settings, sections)?;
     let of_device = device_concerns_of(alloc, settings, &tree, pairs)?;
@@ -81,7 +82,7 @@ fn say_settings(
     say_warnings(rt, differences.as_slice())?;
     say_warnings(rt, of_text.as_slice())?;
     let is_plain = concerns.is_empty() && of_nodes.is_empty() && of_device.is_empty();
-    let is_plain = is_plain && !networks.is_warning;
+    let is_plain = is_plain && !matches!(networks, NetworksSeen::Unknown { .. });
     let is_alike = differences.is_empty() && of_text.is_empty();
     Ok(if is_plain && is_alike { 0 } else { RISKY })
 }

@@ -29,7 +29,7 @@ returns-in_err-byte-clause-declined g c =
       answer = take count line;
       short = omega (arith, length-take-le count line (omega arith));
       other = is_short line count below;
-      takes = Consumes-kept _ _ _ (take count line) c.loop-wanted.invariant c.in_err-byte.ensures.kept;
+      takes = Consumes-kept _ _ _ (take count line) c.loop-wanted.invariant.0 c.in_err-byte.ensures.kept;
     })
 
 pub returns-then-byte-wanted-clause-declined : goal.returns-then-byte-wanted-clause-declined
@@ -42,5 +42,5 @@ returns-then-byte-wanted-clause-declined g c =
       answer = take count line ++ byte ∷ [];
       short = omega (arith, length-append (take count line) (byte ∷ []), length-take-le count line (omega arith));
       other = is_other line count byte below c.if-byte-wanted.true;
-      takes = Consumes-trans _ _ _ (take count line) (byte ∷ []) c.loop-wanted.invariant c.in_ok-byte.ensures.took;
+      takes = Consumes-trans _ _ _ (take count line) (byte ∷ []) c.loop-wanted.invariant.0 c.in_ok-byte.ensures.took;
     }

@@ -11,6 +11,6 @@ words-init c =
     let known = ids c.args.nodes.now in
     let words = parts_left 32 (option_copied c.args.words) in
     record {
-      same = ap (λ list. with_clocks known list words) c.new-list.ensures ∙ clocks_of-is known words;
-      few = subst (λ (list : ClockList). length list.clocks ≤ list.next) (sym c.new-list.ensures) (omega arith);
+      same = ap (λ list. with_clocks known list words) c.requires ∙ clocks_of-is known words;
+      few = subst (λ (list : ClockList). length list.clocks ≤ list.next) (sym c.requires) (omega arith);
     }

@@ -15,4 +15,4 @@ returns-then-is_none-clause-text c =
     let nobody = if_none c.first.result _ (c.is_none.ensures ∙ ap not c.if-is_none.true) c.first.ensures.none in
     c.add.ensures.text
     ∙ ap (λ (list : List ℕ). c.args.into.now.items ++ joined_or_dash 43 (map decimal list))
-    (sym (ids_from-none 0 (ids nodes) c.args.holders (λ rank low. nobody rank (omega arith))))
+    (sym (ids_from-none 0 (ids nodes) c.args.holders (λ rank above low. nobody rank (omega arith))))

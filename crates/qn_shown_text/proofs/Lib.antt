@@ -1,0 +1,4 @@
+mod EntryTexts
+mod Printing
+mod StatusTexts
+mod Wholeness
