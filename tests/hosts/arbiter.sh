@@ -33,7 +33,7 @@ host_3_alone() {
     ip -n "$tag" address add 192.0.2.1/32 dev br0
     bare 3
     power 3
-    until_true 40 on 3 systemctl is-active test-network.service
+    has_booted 3
 }
 
 # answers SECONDS FOLDER PORT: what the arbiter of that text and key answers to node 1 for so long

@@ -16,7 +16,7 @@ bare_hosts() {
         cp "$package" "$room/host$n/root/"
         power "$n"
     done
-    for n in 1 2 3; do until_true 60 on "$n" systemctl -q is-active multi-user.target || return 1; done
+    for n in 1 2 3; do has_booted "$n" || return 1; done
 }
 
 # each_host COMMAND..: the same on the three, with the number of the host behind it

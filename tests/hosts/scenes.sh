@@ -13,6 +13,8 @@ begun() {
 
 # unit_is N WORD: the state of the unit of host N's node
 unit_is() { [ "$(on "$1" systemctl is-active "quorumd@$1.service")" = "$2" ]; }
+# has_booted N: before that systemd empties /tmp under whoever works there
+has_booted() { until_true 60 on "$1" systemctl -q is-active multi-user.target; }
 not_reset() { [ "$(resets "$1")" = 0 ] || { echo "host $1 was reset"; return 1; }; }
 said() { on "$1" journalctl -o cat "${@:3}" | grep -e "$2"; }
 
@@ -433,7 +435,7 @@ scene_late_disk() {
     local n
     mv "$shared/disk" "$shared/disk.away"
     for n in 1 2 3; do power "$n"; done
-    until_true 40 on 3 systemctl is-active multi-user.target
+    until_true 40 on 3 systemctl is-active basic.target
     fault 'the image is not there yet'
     sleep 20
     mv "$shared/disk.away" "$shared/disk"
@@ -648,8 +650,7 @@ scene_setup() {
         rm -f "$room/host$n/etc/quorumd/node-$n.env" "$room/host$n/etc/quorumd/corosync.conf" "$room/host$n/etc/quorumd/key"
         power "$n"
     done
-    until_true 30 on 3 true
-    sleep 4
+    for n in 1 2 3; do has_booted "$n" || return 1; done
     for n in 1 2 3; do
         create=()
         [ "$n" != 1 ] || create=(--create)
@@ -683,7 +684,7 @@ scene_setup_by_names() {
     rm "$shared/disk"
     sed 's/192\.0\.2\./host/' "$room/corosync.conf" > "$shared/corosync.conf"
     for n in 1 2 3; do bare "$n" && power "$n"; done
-    for n in 1 2 3; do until_true 30 on "$n" systemctl is-active test-network.service || return 1; done
+    for n in 1 2 3; do has_booted "$n" || return 1; done
     # another host first, which has no key yet
     set_up_host 2 && return 1
     set_up_host 1 --create || return 1

@@ -155,7 +155,7 @@ with_arbiter() {
     rm -f "$room/host3/etc/quorumd/node-3.env"
     in_root "$room/host3" systemctl -q disable quorumd@3.service
     power 3
-    until_true 40 on 3 systemctl is-active test-network.service || return 1
+    has_booted 3 || return 1
     cp "$room/device.conf" "$room/key" "$shared/"
     on 3 quorumd-setup /srv/cluster/device.conf --arbiter --key /srv/cluster/key && on 3 systemctl enable --now quorumd-arbiter.service || return 1
     until_true 10 said 3 'event=arbiter-open' -u quorumd-arbiter.service

@@ -84,10 +84,10 @@ bounded 1 mail_unread 1 "$(scene 7 24)" 'OUT OF BOUNDS: machine 1 was reset afte
 bounded 0 wrong_watchdog 1 "$(scene 3 6)" ''
 bounded 1 hang 1 '90.000 1 sign 1 1\n' 'OUT OF BOUNDS: the scene has no fault'
 
-# each scene has its line of bounds, or is one that begins no machine, or loses others than machine 1
-(. "$TOP/tests/machines/scenes.sh" && printf '%s\n' "${all_scenes[@]}") | sort > scenes
+# each scene has its line of bounds, or is one that begins no machine, or loses others than machine 1, or is judged by `quorums`
+(. "$TOP/tests/machines/scenes.sh" && . "$TOP/tests/machines/arbiter.sh" && printf '%s\n' "${all_scenes[@]}") | sort > scenes
 grep -v '^#' "$TOP/tests/machines/bounds" | cut -f 1 | sort > bounded
 same "$(comm -13 scenes bounded)" ''
-same "$(comm -23 scenes bounded | paste -sd ' ')" 'leader_killed long_sectors_unsaid two_servers_of_three wrong_watchdog'
+same "$(comm -23 scenes bounded | grep -v '^arbiter_' | paste -sd ' ')" 'leader_killed long_sectors_unsaid two_servers_of_three wrong_watchdog'
 
 "$TOP/bin/timeline" --title 'The node of the holder is killed' --journal "$TOP/tests/machines/take-over.journal" | cmp - "$TOP/tests/machines/take-over.svg"
