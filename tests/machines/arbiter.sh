@@ -162,14 +162,17 @@ scene_arbiter_old() {
     one_side 90 "$before" && none_within $((LEASE - 3)) && never_apart
 }
 
-# Wrong: each node has an arbiter of its own. Both are to be seen quorate apart.
+# Wrong: each node has an arbiter of its own. The holder's polls are held up in the cut until the other one has the vote. Both are to be seen quorate apart.
 scene_arbiter_two() {
     ARBITER=2 with_arbiter && until_true 60 saw 4 'event=arbiter-open' || return 1
     order 4 'kill -KILL $(cat /run/arbiter)' # the next one is of a later boot than that which machine 2 heard
     until_true 20 said_times 4 'event=arbiter-open' 2 || return 1
     order 2 'arp -s 10.7.0.3 52:54:00:07:00:04'
     sleep $((LEASE + 3))
+    passing hold 1
     cut_between
+    until_true 30 alone 2 || return 1
+    passing pass
     until_true 30 apart
 }
 
