@@ -178,7 +178,7 @@ scene_arbiter_two() {
 
 # Wrong: the arbiter's machine is one of before, with its memory of then: it has forgotten the yes that it gave since. Both are to be seen quorate apart.
 scene_arbiter_restored() {
-    ARBITER=1 with_arbiter || return 1
+    ARBITER=1 FENCE=20000 with_arbiter || return 1 # a restored machine goes on some seconds later: machine 1 is to be there still
     passing hold 1
     tell save 3 "$room/saved"
     until_true 60 did 3 paused || return 1

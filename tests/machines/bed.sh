@@ -115,13 +115,13 @@ set_up() {
     exec 7> "$room/commands"
 }
 
-# with DEVICE a quorum device of so many votes, for which nobody speaks
+# with DEVICE a quorum device of so many votes, for which nobody speaks; with FENCE so many milliseconds before a node is reset
 make_settings() {
     local number nodes=(1 2 3)
     [ -z "${ARBITER-}" ] || nodes=(1 2)
     {
         echo 'nodelist {'
-        for number in "${nodes[@]}"; do printf ' node {\n  nodeid: %s\n  ring0_addr: 10.7.0.%s\n }\n' "$number" "$number"; done
+        for number in "${nodes[@]}"; do printf ' node {\n  nodeid: %s\n  ring0_addr: 10.7.0.%s\n%s }\n' "$number" "$number" "${FENCE:+  fence_delay: $FENCE$'\n'}"; done
         printf '}\nquorum {\n provider: corosync_votequorum\n'
         [ -z "${DEVICE-}" ] || printf ' device {\n  model: net\n  votes: %s\n }\n' "$DEVICE"
         [ -z "${ARBITER-}" ] || printf ' device {\n  model: net\n  votes: 1\n  timeout: 10000\n  net {\n   host: 10.7.0.3\n  }\n }\n'
