@@ -13,7 +13,7 @@ use Rattle.qn_model.specs.Votes.{quorum_of, votes_among}
 use Rattle.qn_candidate.specs.declared.candidate.Facts.{Facts}
 use Rattle.qn_candidate.specs.Candidate.{meets}
 use Rattle.qn_member.specs.declared.lead.Lead.{Lead}
-use Rattle.qn_member.specs.Maker.{Maker, after_announce, after_hello, first_maker, follows_other, has_configured, is_configured, least_of, plain, ranks_that, said_in, says_able, says_more}
+use Rattle.qn_member.specs.Maker.{Maker, after_announce, after_hello, first_maker, follows_of, follows_other, has_configured, is_configured, least_of, of_rank, plain, ranks_that, said_in, says_able, says_more}
 
 -- What such a view maker knows. By rank: whom a node hears as its last Hello says, or sees, of the node itself; and what it
 -- said of itself beside it.
@@ -262,9 +262,28 @@ followed_by_name m f = option_or (least_sure m (keepers m f)) (least_sure m (abl
 abbrev pub leader_by_name : NamingMaker → Facts → Option ℕ
 leader_by_name m f = option_or (followed_by_name m f) (least_of m.maker m.maker.seen)
 
--- a leader leads itself and each visible node that follows no other
+-- the last Hello of a node says that it follows this one
+abbrev pub follows_this : Maker → ℕ → Bool
+follows_this m rank = option_map_or (λ leader. leader.0 == m.me) (follows_of m rank) false
+
+-- the last Hello of a node came no earlier than that of another
+abbrev pub is_heard_since : Maker → ℕ → ℕ → Bool
+is_heard_since m rank other =
+    option_map_or (λ first. option_map_or (nat_le first) (of_rank m.hellos rank) false) (of_rank m.hellos other) false
+
+-- a node that says it follows this one makes no view: who said before that it follows that node counts as one that follows no other
+abbrev pub is_follower_since : Maker → ℕ → ℕ → Bool
+is_follower_since m leader rank = is_member m.seen leader && follows_this m leader && is_heard_since m leader rank
+
+abbrev pub follows_follower : Maker → ℕ → Bool
+follows_follower m rank =
+    option_map_or (λ leader. is_configured m leader.0 && is_follower_since m leader.0 rank) (follows_of m rank) false
+
+-- a leader leads itself and each visible node that follows no other, or one that follows the leader since
 abbrev pub is_led_by_name : NamingMaker → ℕ → Bool
-is_led_by_name m rank = rank == m.maker.me || is_member m.maker.seen rank && not (follows_other m.maker rank)
+is_led_by_name m rank =
+    rank == m.maker.me
+    || is_member m.maker.seen rank && (not (follows_other m.maker rank) || follows_follower m.maker rank)
 
 abbrev pub led_by_name : NamingMaker → Mask
 led_by_name m = record { 0 = ranks_that (is_led_by_name m) (length m.maker.nodes) }

@@ -6,6 +6,7 @@ impl Member {
     ghost use Rattle.std.specs.Prelude.{◌≡◌, ◌<◌, IfSome, true};
     ghost use Rattle.std.specs.Option.{option_map};
     ghost use Rattle.qn_member.specs.Maker.{able_nodes, followed, follows_lost, follows_of, forgotten_nodes, has_configured, is_able, is_forgotten, is_upper, is_visible, leader_of, may_lead, names, says_able, upper_nodes, visible_nodes};
+    ghost use Rattle.qn_member.specs.Naming.{follows_follower, follows_this, is_follower_since, is_heard_since};
 
     /// Whether the last Hello of a node names this one.
     fn names(&self, rank: Rank) -> bool
@@ -130,6 +131,49 @@ impl Member {
     {
         let said = self.said[usize::from(rank.0)]?;
         said.follows
+    }
+
+    fn follows_this(&self, rank: Rank) -> bool
+        requires { rank.0 < 32 }
+        ensures { result ≡ follows_this self.now rank.0 }
+    {
+        match self.follows_of(rank) {
+            Some(leader) => leader == self.me,
+            None => false,
+        }
+    }
+
+    fn is_heard_since(&self, rank: Rank, other: Rank) -> bool
+        requires rank { rank.0 < 32 }
+        requires other { other.0 < 32 }
+        ensures { result ≡ is_heard_since self.now rank.0 other.0 }
+    {
+        match (
+            self.hellos[usize::from(other.0)],
+            self.hellos[usize::from(rank.0)],
+        ) {
+            (Some(first), Some(heard)) => first <= heard,
+            (Some(_), None) | (None, _) => false,
+        }
+    }
+
+    fn is_follower_since(&self, leader: Rank, rank: Rank) -> bool
+        requires leader { leader.0 < 32 }
+        requires rank { rank.0 < 32 }
+        ensures { result ≡ is_follower_since self.now leader.0 rank.0 }
+    {
+        self.seen.has(leader) && self.follows_this(leader) && self.is_heard_since(leader, rank)
+    }
+
+    /// Whether a node said that it follows one that this node sees, and that said no earlier that it follows this node.
+    pub(crate) fn follows_follower(&self, rank: Rank) -> bool
+        requires { rank.0 < 32 }
+        ensures { result ≡ follows_follower self.now rank.0 }
+    {
+        match self.follows_of(rank) {
+            Some(leader) => self.is_configured(leader) && self.is_follower_since(leader, rank),
+            None => false,
+        }
     }
 
     /// Whether a node said that it follows one that the last look saw and this one does not.

@@ -200,7 +200,9 @@ impl NamingMember {
         requires { rank.0 < 32 }
         ensures { result ≡ is_led_by_name self.now rank.0 }
     {
-        rank == self.member.me || self.member.seen.has(rank) && !self.member.follows_other(rank)
+        rank == self.member.me
+            || self.member.seen.has(rank)
+                && (!self.member.follows_other(rank) || self.member.follows_follower(rank))
     }
 
     fn led_by_name(&self) -> Mask

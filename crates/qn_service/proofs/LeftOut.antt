@@ -10,7 +10,7 @@ use Rattle.qn_base.specs.Members.{is_member}
 use Rattle.qn_model.specs.Votes.{are_all_in}
 use Rattle.qn_candidate.specs.Numbers.{next_plain}
 use Rattle.qn_member.specs.Maker.{Maker, company_at, company_under, followed_view, follows_other, is_first_due, is_led, is_present, is_present_member, is_steady, is_visible, known_nodes, leader_at, led_by, led_nodes, looked, may_install, members_at, own_view, view_at, visible_nodes}
-use Rattle.qn_member.specs.Naming.{NamingMaker, company_by_name, is_led_by_name, is_own, knows_all, knows_bit, leader_by_name, led_by_name}
+use Rattle.qn_member.specs.Naming.{NamingMaker, company_by_name, follows_follower, is_led_by_name, is_own, knows_all, knows_bit, leader_by_name, led_by_name}
 use Rattle.qn_member.specs.NamingViews.{company_now, facts_seen, followed_by_age, is_named_anew, is_sixth_loop, looked_by_name, may_begin, members_by_name, own_by_name, seeing_names, view_by_name, view_found, view_of}
 use Rattle.qn_service.specs.Leading.{LeavesOut, MakesView, company_then, has_hello, known_then, names_then}
 use Rattle.qn_service.proofs.Made.{CameOf, NextBy, if_is, looked_notes, name_way, noted_then, plain_way}
@@ -53,11 +53,12 @@ name_apart : (m : NamingMaker) (rank : ℕ) → is_led_by_name m rank ≡ false
     → ((rank == m.maker.me) ≡ false) × ((is_member m.maker.seen rank ≡ false) ⊎ (follows_other m.maker rank ≡ true))
 name_apart m rank out =
     let parts = or_parts (rank == m.maker.me) _ out in
-    (parts.0, by_rest (and_cases (is_member m.maker.seen rank) (not (follows_other m.maker rank)) parts.1))
+    (parts.0, by_rest (and_cases (is_member m.maker.seen rank) _ parts.1))
   where
-    by_rest : (is_member m.maker.seen rank ≡ false) ⊎ (not (follows_other m.maker rank) ≡ false) → (is_member m.maker.seen rank ≡ false) ⊎ (follows_other m.maker rank ≡ true)
+    by_rest : (is_member m.maker.seen rank ≡ false) ⊎ ((not (follows_other m.maker rank) || follows_follower m.maker rank) ≡ false)
+        → (is_member m.maker.seen rank ≡ false) ⊎ (follows_other m.maker rank ≡ true)
     by_rest (inl unseen) = inl unseen
-    by_rest (inr follows) = inr (not_false (follows_other m.maker rank) follows)
+    by_rest (inr follows) = inr (not_false (follows_other m.maker rank) (or_parts (not (follows_other m.maker rank)) _ follows).0)
 
 -- a company is whom the node leads, or whom it sees
 led_or_seen : (k : Maker) (leader : Option ℕ) (rank : ℕ) → is_member (option_map_or (company_under k k.seen) leader k.seen) rank ≡ false
