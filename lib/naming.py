@@ -167,7 +167,14 @@ class NamingMember(Member):
     def is_led(self, ident):
         if self.is_mixed:
             return super().is_led(ident)
-        return ident == self.ident or ident in self.forgotten or self.said[ident].follows in (None, self.ident)
+        return (ident == self.ident or ident in self.forgotten or self.said[ident].follows in (None, self.ident)
+                or self.follows_follower(ident))
+
+    def follows_follower(self, ident):
+        """Whether a node follows a visible one whose last Hello came no earlier and says that it follows this one."""
+        leader = self.said[ident].follows
+        return (leader in self.visible_now and self.said[leader].follows == self.ident
+                and self.hellos[ident] <= self.hellos[leader])
 
     # ---- whom it names
 
