@@ -154,6 +154,6 @@ def rows_of(kind, least):
 
 
 lines = (TOP / "tests/program/qn_tests/stdin").read_text().splitlines()
-wrong = [*wrong_calls(rows_of("maker", 4900)), *wrong_names(rows_of("candidate", 200)), *wrong_decisions(rows_of("decision", 72))]
+wrong = [*wrong_calls(rows_of("maker", 4900)), *wrong_names(rows_of("candidate", 200)), *wrong_decisions(rows_of("decision", 75))]
 if wrong:
     sys.exit("\n".join(wrong[:20]))
