@@ -1,6 +1,5 @@
 //! The journal of a running node.
 ghost use Rattle.std.specs.Prelude.{◌≡◌, List, true};
-ghost use Rattle.qn_io.specs.Receives.{FitsPacket};
 ghost use Rattle.qn_live.specs.Machine.{Stands};
 ghost use Rattle.qn_model.specs.Log.{Line};
 ghost use Rattle.qn_model.specs.Holding.{holds};
@@ -15,29 +14,21 @@ use qn_base::Rank;
 use qn_event::{EventLine, Moment};
 use qn_io::Got;
 use qn_leases::ArbiterNotices;
-use qn_live::{Asked, Given, LiveEnd, NodeRun, Notices, Room, Standing};
+use qn_live::{Asked, Came, Decoded, Given, LiveEnd, NodeRun, Notices, Standing};
 use qn_machine::{Lines, ReplacedFile};
 use qn_model::{MailSeen, Packet, Phase, Settings};
-use qn_news::{DeviceNews, Entered, IMAGE, Images, Peers, Seldom, Telling};
+use qn_news::{DeviceNews, Entered, IMAGE, Images, Peers, Seldom, Stops, Telling};
 use qn_notice::{Event, Observer};
-use qn_polls::get_reply;
 use qn_safety::{Lease, Poll};
-use qn_sector::{get_header, get_mail, mail_sector};
 use qn_shown::Counts;
 use qn_told::{
-    device_answered, device_silent, ended, event_line, feeds_failed, image_back, image_lost,
-    mail_damaged, mail_failed, mail_told, network_back, network_lost, packets_refused, peer_lost,
-    peer_seen,
+    add_failed, device_answered, device_silent, ended, event_line, feeds_failed, image_back,
+    image_lost, mail_damaged, mail_failed, mail_told, network_back, network_lost, packets_refused,
+    peer_lost, peer_seen,
 };
-use qn_wire::get_packet;
 use std::fs::File;
 use std::rt::Files;
 use std::time::Clock;
-
-/// The kinds of what the node's own host hands it: that it is to leave, and what this host says of it.
-const LEAVE: u8 = 12;
-
-const WORD: u8 = 13;
 
 /// The most nodes.
 const NODES: usize = 32;
@@ -75,6 +66,7 @@ pub struct Journal<'a, R: Files<File = File> + Clock + Eprint> {
     greeted: Option<Rank>,
     refused: Seldom,
     late: Seldom,
+    stops: Stops,
     turns: u64,
     /// Whether something was told since the last status, and the tick of that.
     is_new: bool,
@@ -113,6 +105,7 @@ impl<'a, R: Files<File = File> + Clock + Eprint> Journal<'a, R> {
             greeted: None,
             refused: Seldom::default(),
             late: Seldom::default(),
+            stops: Stops::default(),
             turns: 0,
             is_new: false,
             written: None,
@@ -138,6 +131,7 @@ impl<'a, R: Files<File = File> + Clock + Eprint> Journal<'a, R> {
         match entered {
             Entered::Header(msgwait) => self.msgwait = msgwait,
             Entered::Mail(seen) => self.take_mail(seen, tick),
+            Entered::Stopped(ok) => self.stops.take(ok, tick),
             Entered::View | Entered::Device(_) | Entered::Nothing => {}
         }
         self.greet(tick, run);
@@ -261,38 +255,53 @@ impl<'a, R: Files<File = File> + Clock + Eprint> Journal<'a, R> {
         }
     }
 
-    /// Tells an event.
+    /// Tells an event; of stops that fail one after the other the first, and how many they were once one succeeds.
     fn tell(&mut self, event: &Event, run: &NodeRun) {
+        let Some(failed) = self.failed_before(event, run) else {
+            return;
+        };
         let mut line = event_line(self.now(), &run.settings().nodes, self.msgwait, event);
+        add_failed(&mut line, failed);
         if let Some(rank) = subject_of(event, run.rank()) {
             add_name(&mut line, self.names.of(rank));
         }
         self.say(&line);
     }
 
-    /// A packet came, of these bytes.
-    fn hear(&mut self, bytes: &[u8]) {
-        match get_packet(bytes) {
+    /// How many stops failed before what an event tells; None where it is not told.
+    fn failed_before(&mut self, event: &Event, run: &NodeRun) -> Option<u64> {
+        if matches!(event, Event::StopAsked) {
+            return self.stops.ask(run.tick(), run.loop_ms()).then_some(0);
+        }
+        if let Event::StopAnswered { ok } = *event {
+            return self.stops.answer(ok);
+        }
+        Some(0)
+    }
+
+    /// This came.
+    fn hear(&mut self, came: &Came) {
+        match came.packet {
             Some(Packet::Hello { from } | Packet::Heard { from, .. }) => self.greeted = Some(from),
             Some(
                 Packet::Ask(_) | Packet::Tell(_) | Packet::Announce { .. } | Packet::Vote { .. },
             ) => {}
-            None if get_reply(bytes).is_some() || is_of_host(bytes) => {}
+            None if came.reply.is_some() || came.is_request || came.word.is_some() => {}
             None => self.refused.count(),
         }
     }
 
-    /// A sector was read, and has these bytes.
-    fn look(&mut self, sector: u32, room: &Room, run: &NodeRun) {
-        let me = run.rank();
+    /// A call on a sector was answered, and its bytes are that.
+    fn look(&mut self, sector: u32, ok: bool, decoded: Decoded) {
+        self.images.call(sector, ok);
         let image = (sector / IMAGE) as usize;
-        if sector % IMAGE == 0 {
-            self.images
-                .header(image, get_header(&room.sector).is_some());
-        } else if me.0 < 32 && sector % IMAGE == mail_sector(me) {
-            let mail = get_mail(&room.sector);
-            self.images.mailbox(image, mail.is_some());
-            self.mailbox.read(image, mail);
+        match decoded {
+            Decoded::Header { is_one } => self.images.header(image, is_one),
+            Decoded::Mailbox(mail) => {
+                self.images.mailbox(image, mail.is_some());
+                self.mailbox.read(image, mail);
+            }
+            Decoded::Nothing | Decoded::Came(_) => {}
         }
     }
 
@@ -406,11 +415,6 @@ impl<'a, R: Files<File = File> + Clock + Eprint> Journal<'a, R> {
     }
 }
 
-/// Whether these bytes are what the node's own host asks of it or says of it, of which no packet of a network is.
-fn is_of_host(bytes: &[u8]) -> bool {
-    matches!(bytes, [b'Q', b'N', LEAVE | WORD, ..])
-}
-
 /// Adds the name of a node, where it has one, as the last word of a line.
 fn add_name(line: &mut EventLine, name: Option<&str>) {
     if let Some(name) = name {
@@ -468,9 +472,7 @@ fn shown_standing(run: &NodeRun) -> Standing
 }
 
 impl<'a, R: Files<File = File> + Clock + Eprint> Notices for Journal<'a, R> {
-    fn made(&mut self, asked: Asked, given: Given, room: &Room, run: &NodeRun)
-        requires { FitsPacket given.got }
-    {
+    fn made(&mut self, asked: Asked, given: Given, decoded: Decoded, run: &NodeRun) {
         let is_turn = matches!(asked, Asked::Now) && given.tick == run.tick();
         if is_turn {
             self.turn(given.tick, run);
@@ -484,16 +486,12 @@ impl<'a, R: Files<File = File> + Clock + Eprint> Notices for Journal<'a, R> {
             self.refresh(given.tick, run);
         }
         match asked {
-            Asked::Receive => if let Got::Packet(count) = given.got {
-                self.hear(&room.packet[..count]);
+            Asked::Receive => if let (Got::Packet(_), Decoded::Came(came)) = (given.got, decoded) {
+                self.hear(&came);
             },
-            Asked::Read { sector } => {
-                self.images.call(sector, given.ok);
-                if given.ok {
-                    self.look(sector, room, run);
-                }
+            Asked::Read { sector } | Asked::Write { sector } => {
+                self.look(sector, given.ok, decoded);
             }
-            Asked::Write { sector } => self.images.call(sector, given.ok),
             Asked::Feed => if !given.ok {
                 self.late.count();
             },

@@ -4,8 +4,8 @@ use qn_base::write_decimal;
 use std::fmt::Write;
 use std::net::SocketAddr;
 
-/// The most bytes of a status: that of 32 nodes whose ids have ten digits and whose names have 63 bytes, each behind a backslash, and of which each told
-/// something, is shorter.
+/// The most bytes of the status of an arbiter: that of 32 nodes whose ids have ten digits, each of which polled with a view of all of them, is shorter where
+/// its other numbers have at most twelve.
 const TEXT: usize = 14_336;
 
 /// The most bytes of an address with its port, of IPv6 with a number of its interface.

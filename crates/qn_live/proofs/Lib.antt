@@ -3,6 +3,7 @@ pub mod Answering
 pub mod Answers
 pub mod Checks
 pub mod Coming
+pub mod BytesDecoded
 pub mod GreetingsMade
 pub mod Halted
 pub mod Handing

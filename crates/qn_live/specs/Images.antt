@@ -5,11 +5,12 @@ use Rattle.qn_base.specs.Calls.{blank}
 use Rattle.qn_base.specs.Plans.{Follows, Made, Plan, question}
 use Rattle.qn_model.specs.declared.configuration.Settings.{Settings}
 use Rattle.qn_model.specs.Log.{Line}
+use Rattle.qn_live.specs.declared.asked.Asked.{Asked}
 use Rattle.qn_live.specs.declared.asked.Given.{Given}
 use Rattle.qn_live.specs.declared.asked.Room.{Room}
 use Rattle.qn_live.specs.declared.live_end.LiveEnd.{LiveEnd}
 use Rattle.qn_live.specs.declared.run.NodeRun.{NodeRun}
-use Rattle.qn_live.specs.Asking.{Tells}
+use Rattle.qn_live.specs.Asking.{Tells, told}
 use Rattle.qn_live.specs.Machine.{RunFor, work}
 use Rattle.qn_live.specs.Running.{Ran}
 use Rattle.qn_live.specs.Runs.{live_plan}
@@ -52,12 +53,23 @@ abbrev pub images_work : ImagesRun → ℕ
 images_work (run.One single) = work single
 images_work (run.Three triple) = triple_work triple
 
+-- somebody was told of this call with its answer
+abbrev pub IsHeard : {N : Type 0} → (N → N → Asked → Given → Type 0) → N → N → Call → Type 0
+IsHeard hears before after call =
+    (asked : Asked) × (given : Given) × (asking : Room) × (answered : Room)
+    × (call ≡ told asked asking given answered) × hears before after asked given
+
+-- somebody was told of each of these calls, in their order, and then of the end of the run
+abbrev pub HasHeard : {N : Type 0} → (N → N → Asked → Given → Type 0) → (N → N → LiveEnd → Type 0) → N → N → List Call → LiveEnd → Type 0
+HasHeard {N} hears hears_end before after calls end =
+    (last : N) × Shows (IsHeard hears) before last calls × hears_end last after end
+
 -- a run over an outside: the calls of the plan were made, with these answers and no others, each of them is one that an outside
--- can have made, each shows what the outside says of it, and the run ended so
-pub record RanOn {E : Type 0} (faults : E → ℕ) (told : E → Option (List Call)) (shows : E → E → Call → Type 0) (before after : E) (plan : Plan Ran) (end : LiveEnd) : Type 0 where
+-- can have made, this is so of them, and the run ended so
+pub record RanOn {E : Type 0} (faults : E → ℕ) (told : E → Option (List Call)) (before after : E) (is_so : List Call → Type 0) (plan : Plan Ran) (end : LiveEnd) : Type 0 where
   pub calls : List Call
   pub log : List Line
   pub made : Made (faults before) (faults after) (told before) (told after) calls
   pub recorded : AreRecorded calls
-  pub shown : Shows shows before after calls
+  pub shown : is_so calls
   pub follows : Follows plan calls (record { end = end; log = log })

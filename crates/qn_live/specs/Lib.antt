@@ -1,6 +1,7 @@
 pub mod Asking
 pub mod CalmOutputs
 pub mod Choosing
+pub mod Decoding
 pub mod EndLaws
 pub mod Greetings
 pub mod Halts

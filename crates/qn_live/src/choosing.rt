@@ -1,5 +1,6 @@
 //! Which entry a turn takes.
 ghost use Rattle.std.specs.Prelude.{◌≡◌, ◌≤◌, ◌||◌, length, option_and_then, option_map};
+ghost use Rattle.qn_base.specs.declared.calls.Received.{Received};
 ghost use Rattle.qn_polls.specs.Poller.{poller_of};
 ghost use Rattle.qn_safety.specs.Poller.{answer_taken};
 ghost use Rattle.qn_live.specs.Polling.{answered_at, choice_beside, reply_in};
@@ -7,6 +8,7 @@ ghost use Rattle.qn_io.specs.Receives.{FitsPacket, received};
 ghost use Rattle.qn_live.specs.Choosing.{choice_of, choice_where, failed_answer, heard, is_entry_for, is_request, look_after, looked, packet_in, ready};
 ghost use Rattle.qn_live.specs.Runs.{loop_after};
 
+use crate::decoded::Came;
 use crate::place::{Choice, Waits};
 use crate::words::Own;
 use qn_base::Rank;
@@ -46,39 +48,41 @@ pub fn ready(leaves: bool, rests: bool, waits: Waits) -> Option<(What, Waits)>
     }
 }
 
-/// What a turn takes that received this.
-pub fn choose(me: Rank, polls: bool, got: Got, packet: &[u8; PACKET]) -> Choice
-    requires { FitsPacket got }
-    ensures { result ≡ choice_where polls me.0 (received got packet.now) }
+/// What a turn takes, by the packet and the reply that were received.
+pub fn choose(me: Rank, polls: bool, packet: Option<Packet>, reply: Option<Reply>) -> Choice
+    ensures { (got : Received)
+        → packet ≡ packet_in got
+        → reply ≡ reply_in got
+        → result ≡ choice_where polls me.0 got }
 {
-    let before = choose_packet(me, got, packet);
+    let before = choice_of(me, packet);
     if polls {
-        choose_beside(me, reply_in(got, packet), before)
+        choose_beside(me, reply, before)
     } else {
         before
     }
 }
 
-fn choose_packet(me: Rank, got: Got, packet: &[u8; PACKET]) -> Choice
+/// The packet that came, where it is one.
+pub fn packet_in(got: Got, packet: &[u8; PACKET]) -> Option<Packet>
     requires { FitsPacket got }
-    ensures { result ≡ choice_of me.0 (packet_in (received got packet.now)) }
+    ensures { result ≡ packet_in (received got packet.now) }
 {
     match got {
-        Got::Packet(length) => choice_of(me, get_packet(&packet[..length])),
-        Got::Nothing | Got::Failed => Choice::Open(None),
+        Got::Packet(length) => get_packet(&packet[..length]),
+        Got::Nothing | Got::Failed => None,
     }
 }
 
 /// Whether the host of the node has asked it to leave: before, or by what came now.
-pub fn heard_request(asked: bool, got: Got, packet: &[u8; PACKET]) -> bool
-    requires { FitsPacket got }
-    ensures { result ≡ (asked || is_request (received got packet.now)) }
+pub fn heard_request(asked: bool, came: Came) -> bool
+    ensures { result ≡ (asked || came.is_request) }
 {
-    asked || is_request(got, packet)
+    asked || came.is_request
 }
 
 /// Whether that is the request of this host that the node is to leave, of which no packet has the bytes.
-fn is_request(got: Got, packet: &[u8; PACKET]) -> bool
+pub fn is_request(got: Got, packet: &[u8; PACKET]) -> bool
     requires { FitsPacket got }
     ensures { result ≡ is_request (received got packet.now) }
 {
@@ -88,7 +92,8 @@ fn is_request(got: Got, packet: &[u8; PACKET]) -> bool
     }
 }
 
-fn reply_in(got: Got, packet: &[u8; PACKET]) -> Option<Reply>
+/// The reply of an arbiter that came, where it is one.
+pub fn reply_in(got: Got, packet: &[u8; PACKET]) -> Option<Reply>
     requires { FitsPacket got }
     ensures { result ≡ reply_in (received got packet.now) }
 {

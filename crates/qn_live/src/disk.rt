@@ -1,17 +1,21 @@
 //! The disk operations of a node on one image: the call of each, and what its answer is to the node. How a node on three images does
 //! each of them with the sectors of all three stands in `specs/TripleDisk`.
-ghost use Rattle.std.specs.Prelude.{◌≡◌, ◌≤◌, ◌<◌, false, length, if◌then◌else◌};
+ghost use Rattle.std.specs.Prelude.{◌≡◌, ◌≤◌, ◌<◌, ℕ, List, false, length, if◌then◌else◌};
 ghost use Rattle.qn_model.specs.Settings.{IsValid};
 ghost use Rattle.qn_model.specs.World.{failed};
 ghost use Rattle.qn_node.specs.Outputs.{IsNodeOutput};
 ghost use Rattle.qn_live.specs.Asking.{IsServed, IsWithin, is_look, question_of};
+ghost use Rattle.qn_sector.specs.Reading.{header_of, mail_of};
+ghost use Rattle.qn_live.specs.Decoding.{decoded_in};
 ghost use Rattle.qn_live.specs.Performing.{disk_call, done, header_seen, mail_seen, reset_by, slot_seen, write_mail, write_slot};
 
 use crate::asked::{Asked, Room};
+use crate::decoded::Decoded;
 use qn_base::Rank;
 use qn_io::SECTOR;
 use qn_model::{
-    DiskOp, HeaderSeen, Mail, MailSeen, Message, Out, Sender, Settings, Slot, SlotSeen, What,
+    DiskOp, HeaderSeen, Mail, MailSeen, Message, Out, Sender, Settings, Slot, SlotSeen, Timing,
+    What,
 };
 use qn_sector::{get_header, get_mail, get_slot, mail_sector, put_mail, put_slot, slot_sector};
 
@@ -88,38 +92,86 @@ fn ask_reset(settings: &Settings, me: Rank, incarnation: u64, rank: Rank, room: 
     }
 }
 
-/// What the answer of a disk operation is to the node: `ok` says whether it was done, and `sector` is what it read.
-pub fn answer(settings: &Settings, op: DiskOp, ok: bool, sector: &[u8; SECTOR]) -> What
-    ensures { result ≡ (if ok then done settings.now op sector.now else failed op) }
+/// What the answer of a disk operation is to the node, and what the bytes are that it read.
+#[derive(Clone, Copy)]
+pub struct DiskAnswer {
+    pub entry: What,
+    pub decoded: Decoded,
+}
+
+/// The answer of a disk operation: `ok` says whether it was done, and `sector` is what it read.
+pub fn answer(settings: &Settings, op: DiskOp, ok: bool, sector: &[u8; SECTOR]) -> DiskAnswer
+    ensures entry { result.entry ≡ (if ok then done settings.now op sector.now else failed op) }
+    ensures decoded { result.decoded ≡ (if ok then decoded_in op sector.now else Decoded.Nothing) }
 {
     if ok {
         done(settings, op, sector)
     } else {
-        op.failed()
+        DiskAnswer {
+            entry: op.failed(),
+            decoded: Decoded::Nothing,
+        }
     }
 }
 
 /// The answer of a disk operation that was done, and that read this sector.
 #[tactic(auto, unfolding(crate::specs::Performing::done))]
-pub fn done(settings: &Settings, op: DiskOp, sector: &[u8; SECTOR]) -> What
-    ensures { result ≡ done settings.now op sector.now }
+pub fn done(settings: &Settings, op: DiskOp, sector: &[u8; SECTOR]) -> DiskAnswer
+    ensures entry { result.entry ≡ done settings.now op sector.now }
+    ensures decoded { result.decoded ≡ decoded_in op sector.now }
 {
     match op {
-        DiskOp::ReadHeader => What::Header(header_seen(sector)),
-        DiskOp::ReadSlot(rank) => What::SlotRead(rank, slot_seen(settings, rank, sector)),
-        DiskOp::CheckMail => What::MailChecked(mail_seen(sector)),
-        DiskOp::ReadMail => What::MailRead(mail_seen(sector)),
-        DiskOp::WriteClaim(_) => What::Claimed(true),
-        DiskOp::WriteClose(_) => What::Closed(true),
-        DiskOp::WriteClear => What::Cleared(true),
-        DiskOp::WriteReset(rank) => What::MailWritten(rank, true),
+        DiskOp::ReadHeader => {
+            let header = get_header(sector);
+            DiskAnswer {
+                entry: What::Header(header_seen(header)),
+                decoded: Decoded::Header {
+                    is_one: header.is_some(),
+                },
+            }
+        }
+        DiskOp::CheckMail => {
+            let mail = get_mail(sector);
+            DiskAnswer {
+                entry: What::MailChecked(mail_seen(mail)),
+                decoded: Decoded::Mailbox(mail),
+            }
+        }
+        DiskOp::ReadMail => {
+            let mail = get_mail(sector);
+            DiskAnswer {
+                entry: What::MailRead(mail_seen(mail)),
+                decoded: Decoded::Mailbox(mail),
+            }
+        }
+        DiskOp::ReadSlot(rank) => {
+            DiskAnswer::without_bytes(What::SlotRead(rank, slot_seen(settings, rank, sector)))
+        }
+        DiskOp::WriteClaim(_) => DiskAnswer::without_bytes(What::Claimed(true)),
+        DiskOp::WriteClose(_) => DiskAnswer::without_bytes(What::Closed(true)),
+        DiskOp::WriteClear => DiskAnswer::without_bytes(What::Cleared(true)),
+        DiskOp::WriteReset(rank) => DiskAnswer::without_bytes(What::MailWritten(rank, true)),
     }
 }
 
-fn header_seen(sector: &[u8; SECTOR]) -> HeaderSeen
-    ensures { result ≡ header_seen sector.now }
+impl DiskAnswer {
+    ghost use Rattle.std.specs.Prelude.{◌≡◌};
+
+    /// An answer of whose bytes nobody is told.
+    fn without_bytes(entry: What) -> DiskAnswer
+        ensures { result ≡ record { entry = entry; decoded = Decoded.Nothing } }
+    {
+        DiskAnswer {
+            entry,
+            decoded: Decoded::Nothing,
+        }
+    }
+}
+
+fn header_seen(header: Option<(u32, Timing)>) -> HeaderSeen
+    ensures { (bytes : List ℕ) → header ≡ header_of bytes → result ≡ header_seen bytes }
 {
-    match get_header(sector) {
+    match header {
         Some((nodes, timing)) => HeaderSeen::Read { nodes, timing },
         None => HeaderSeen::NotImage,
     }
@@ -135,10 +187,10 @@ fn slot_seen(settings: &Settings, rank: Rank, sector: &[u8; SECTOR]) -> SlotSeen
     }
 }
 
-fn mail_seen(sector: &[u8; SECTOR]) -> MailSeen
-    ensures { result ≡ mail_seen sector.now }
+fn mail_seen(mail: Option<Mail>) -> MailSeen
+    ensures { (bytes : List ℕ) → mail ≡ mail_of bytes → result ≡ mail_seen bytes }
 {
-    match get_mail(sector) {
+    match mail {
         Some(mail) => MailSeen::Read(mail.message),
         None => MailSeen::Damaged,
     }

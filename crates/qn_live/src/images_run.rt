@@ -3,7 +3,7 @@ ghost use Rattle.std.specs.Prelude.{◌≡◌, ◌≤◌, ◌<◌, length};
 
 use crate::node_images::NodeImages;
 use crate::triple_run::TripleRun;
-use crate::{Asked, Given, LiveEnd, NodeRun, Room};
+use crate::{Asked, Decoded, Given, LiveEnd, NodeRun, Room};
 use qn_base::Rank;
 use qn_model::Settings;
 
@@ -24,6 +24,7 @@ impl ImagesRun {
     ghost use Rattle.qn_io.specs.Receives.{FitsPacket};
     ghost use Rattle.qn_model.specs.Settings.{IsValid};
     ghost use Rattle.qn_live.specs.Asking.{IsServed, Tells, question_of};
+    ghost use Rattle.qn_live.specs.Decoding.{decoded_of};
     ghost use Rattle.qn_live.specs.Machine.{EndsWith};
     ghost use Rattle.qn_live.specs.Running.{Ran};
     ghost use Rattle.qn_live.specs.Images.{HasRun, RunsAs, WasAnswered, has_work, images_work, node_run, plan_on};
@@ -81,8 +82,9 @@ impl ImagesRun {
         }
     }
 
-    /// Takes the answer of the call that was asked for, with its bytes in the room, and goes on to the next call.
-    pub fn answer(&mut self, given: Given, room: &Room)
+    /// Takes the answer of the call that was asked for, with its bytes in the room, and goes on to the next call. It gives what the bytes
+    /// are.
+    pub fn answer(&mut self, given: Given, room: &Room) -> Decoded
         requires fits { FitsPacket given.got }
         requires answered { WasAnswered self.old given room.now }
         ensures runs { (plan : Plan Ran) (call : Call)
@@ -91,6 +93,7 @@ impl ImagesRun {
             → question plan ≡ Some (blank call)
             → RunsAs self.new (left plan call) }
         ensures work { 0 < has_work self.old → images_work self.new < images_work self.old }
+        ensures decoded { result ≡ decoded_of (node_run self.old) given room.now }
     {
         match self {
             ImagesRun::One(run) => run.answer(given, room),

@@ -10,8 +10,9 @@
 //! and what the node says of itself, and the announcement follows it (`law_hellos`); a turn takes no packet where the last look of the
 //! view maker is a loop ago (`law_late_look`). What the host of a node says of it is received as a packet is, and kept (`specs/Words`).
 //! `NodeRun` is the same run as a machine, which names its next call and takes its answer; an entry is taken in at each look at the
-//! clock that did not go back (`answer`), and `standing` is what the log says. `Notices` are told of each call, and change nothing. No
-//! call takes memory from an allocator.
+//! clock that did not go back (`answer`), and `standing` is what the log says. Bytes that came are decoded once (`Decoded`): for the node, and
+//! for `Notices`, which are told of each call with its answer and of the end, and change nothing of the run. No call takes memory from an
+//! allocator.
 //!
 //! The same on three images, of which any one may be lost: the calls that `run_node3` makes are those of `triple_plan` of
 //! `specs/TripleRuns`, and its end is the one of that plan, for every outside. The plan is that of a node on one image, in which a call on
@@ -24,6 +25,7 @@
 mod asked;
 mod calling;
 mod choosing;
+mod decoded;
 mod disk;
 mod greeting;
 mod images_run;
@@ -47,7 +49,7 @@ mod words;
 
 pub use asked::{Asked, Given, Room};
 pub use calling::call;
-pub use disk::{answer, done};
+pub use decoded::{Came, Decoded};
 pub use images_run::ImagesRun;
 pub use laws::{
     law_boot_halted, law_end_causes, law_handed_history, law_hellos, law_late_look, law_one_end,

@@ -5,10 +5,12 @@ ghost use Rattle.qn_base.specs.Calls.{blank};
 ghost use Rattle.qn_model.specs.Settings.{IsValid};
 ghost use Rattle.qn_node.specs.Outputs.{IsNodeOutput};
 ghost use Rattle.qn_live.specs.Asking.{IsServed, IsWithin, is_look, question_of, Tells};
+ghost use Rattle.qn_live.specs.Decoding.{decoded_out};
 ghost use Rattle.qn_live.specs.Machine.{operation_in};
 ghost use Rattle.qn_live.specs.Performing.{end_after, end_in, halt_code, is_clean_close, out_call, waits_after};
 
 use crate::asked::{Asked, Given, Room};
+use crate::decoded::Decoded;
 use crate::disk;
 use crate::live_end::LiveEnd;
 use crate::place::Waits;
@@ -63,24 +65,40 @@ pub fn operation_in(out: Out) -> Option<DiskOp>
     }
 }
 
-/// The answers that wait once an output was performed.
+/// The answers that wait once an output was performed, and what the bytes are that it read.
 #[tactic(auto, unfolding(crate::specs::Performing::waits_after))]
-pub fn waits_after(settings: &Settings, waits: Waits, out: Out, given: Given, room: &Room) -> Waits
-    ensures { (call : Call) (me number : ℕ)
+pub fn waits_after(
+    settings: &Settings,
+    waits: Waits,
+    out: Out,
+    given: Given,
+    room: &Room,
+) -> (Waits, Decoded)
+    ensures waits { (call : Call) (me number : ℕ)
         → Tells call given room.now
         → blank call ≡ out_call settings.now me number out
-        → result ≡ waits_after settings.now out call waits }
+        → result.0 ≡ waits_after settings.now out call waits }
+    ensures decoded { result.1 ≡ decoded_out out given room.now }
 {
     match out {
-        Out::Stop => Waits {
-            stopped: Some(given.ok),
-            disk: waits.disk,
-        },
-        Out::Disk(op) => Waits {
-            stopped: waits.stopped,
-            disk: Some(disk::answer(settings, op, given.ok, &room.sector)),
-        },
-        Out::Start | Out::Feed | Out::Send(..) | Out::Disarm | Out::Halt(_) => waits,
+        Out::Stop => {
+            let stopped = Waits {
+                stopped: Some(given.ok),
+                disk: waits.disk,
+            };
+            (stopped, Decoded::Nothing)
+        }
+        Out::Disk(op) => {
+            let answer = disk::answer(settings, op, given.ok, &room.sector);
+            let answered = Waits {
+                stopped: waits.stopped,
+                disk: Some(answer.entry),
+            };
+            (answered, answer.decoded)
+        }
+        Out::Start | Out::Feed | Out::Send(..) | Out::Disarm | Out::Halt(_) => {
+            (waits, Decoded::Nothing)
+        }
     }
 }
 

@@ -1,10 +1,12 @@
 //! The part of a read on one image.
 ghost use Rattle.std.specs.Prelude.{◌≡◌, ◌≤◌, ◌<◌, if◌then◌else◌};
 ghost use Rattle.qn_safety.specs.declared.part.Part.TheVariants.{Failed};
+ghost use Rattle.qn_live.specs.Decoding.{decoded_in};
 ghost use Rattle.qn_live.specs.Performing.{done};
 ghost use Rattle.qn_live.specs.TripleDisk.{is_strange, part_of_entry, sector_on};
 
-use crate::done;
+use crate::decoded::Decoded;
+use crate::disk::done;
 use qn_io::SECTOR;
 use qn_model::{DiskOp, HeaderSeen, MailSeen, Settings, SlotSeen, What};
 use qn_parts::Part;
@@ -20,14 +22,16 @@ pub fn sector_on(image: u32, sector: u32) -> u32
     1024 * (image - 1) + sector
 }
 
-/// The part of a read on an image: `ok` says whether it was done, and `sector` is what it read.
-pub fn part_of(settings: &Settings, op: DiskOp, ok: bool, sector: &[u8; SECTOR]) -> Part
-    ensures { result ≡ (if ok then part_of_entry (done settings.now op sector.now) else Failed) }
+/// The part of a read on an image, and what the bytes are: `ok` says whether it was done, and `sector` is what it read.
+pub fn part_of(settings: &Settings, op: DiskOp, ok: bool, sector: &[u8; SECTOR]) -> (Part, Decoded)
+    ensures part { result.0 ≡ (if ok then part_of_entry (done settings.now op sector.now) else Failed) }
+    ensures decoded { result.1 ≡ (if ok then decoded_in op sector.now else Decoded.Nothing) }
 {
     if ok {
-        part_of_entry(done(settings, op, sector))
+        let answer = done(settings, op, sector);
+        (part_of_entry(answer.entry), answer.decoded)
     } else {
-        Part::Failed
+        (Part::Failed, Decoded::Nothing)
     }
 }
 

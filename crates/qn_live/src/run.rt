@@ -7,6 +7,7 @@ use crate::asked::{Asked, Given, Room};
 use crate::choosing::{
     answered_at, choose, failed_answer, heard_request, look, look_after, loop_after, ready,
 };
+use crate::decoded::{Decoded, came_in};
 use crate::greeting::{
     farewell, first_greeting, greeting_after, greeting_packet, hello_due, keep_member,
 };
@@ -74,6 +75,7 @@ impl NodeRun {
     ghost use Rattle.qn_node.specs.Outputs.{IsNodeOutput};
     ghost use Rattle.qn_live.specs.Asking.{IsServed, IsWithin, is_look, question_of, Tells};
     ghost use Rattle.qn_live.specs.Choosing.{is_late, is_to_leave, own_of};
+    ghost use Rattle.qn_live.specs.Decoding.{decoded_of, decoded_out};
     ghost use Rattle.qn_live.specs.Greetings.{farewells, greeting_call, hellos_where, others_from, to_send};
     ghost use Rattle.qn_live.specs.Machine.{SameBeside, EndsWith, HasMore, IsStanding, IsUnderWay, KeepsEntry, RunFor, Stands, TookIn, acting, begun, clocking, ending, looks_next, next_of, operation_of, parting, saying, settling, state_of, work};
     ghost use Rattle.qn_live.specs.Halts.{is_on_disk};
@@ -240,8 +242,8 @@ impl NodeRun {
     }
 
     /// Takes the answer of the call that was asked for, with its bytes in the room, and goes on to the next call. An entry is
-    /// taken in at each look at the clock that did not go back, and at no other call.
-    pub fn answer(&mut self, given: Given, room: &Room)
+    /// taken in at each look at the clock that did not go back, and at no other call. It gives what the bytes are.
+    pub fn answer(&mut self, given: Given, room: &Room) -> Decoded
         requires under_way { IsUnderWay self.old }
         requires fits { FitsPacket given.got }
         ensures runs { (plan : Plan Ran) (call : Call)
@@ -261,24 +263,35 @@ impl NodeRun {
             → given.tick < self.old.tick
             → KeepsEntry self.old self.new }
         ensures keeps { looks_next self.old ≡ false → KeepsEntry self.old self.new }
+        ensures decoded { result ≡ decoded_of self.old given room.now }
     {
         match self.place {
             Place::Receive => {
-                self.asked = heard_request(self.asked, given.got, &room.packet);
-                self.words = self.words.after(self.tick, given.got, &room.packet);
-                self.place = Place::Now(choose(
-                    self.me,
-                    self.poller.is_some(),
-                    given.got,
-                    &room.packet,
-                ));
+                let came = came_in(given.got, &room.packet);
+                self.asked = heard_request(self.asked, came);
+                self.words = self.words.after(self.tick, came.word);
+                let polls = self.poller.is_some();
+                self.place = Place::Now(choose(self.me, polls, came.packet, came.reply));
+                Decoded::Came(came)
             }
-            Place::Now(choice) => self.at_tick(choice, given.tick),
+            Place::Now(choice) => {
+                self.at_tick(choice, given.tick);
+                Decoded::Nothing
+            }
             Place::Act { at } => self.performed(at, given, room),
-            Place::Poll { greets, .. } => self.greet_or_finish(greets),
-            Place::Greet { greeting, to } => self.greet(greeting, to + 1),
-            Place::Part { view, to } => self.part(view, to + 1),
-            Place::Over(_) => {}
+            Place::Poll { greets, .. } => {
+                self.greet_or_finish(greets);
+                Decoded::Nothing
+            }
+            Place::Greet { greeting, to } => {
+                self.greet(greeting, to + 1);
+                Decoded::Nothing
+            }
+            Place::Part { view, to } => {
+                self.part(view, to + 1);
+                Decoded::Nothing
+            }
+            Place::Over(_) => Decoded::Nothing,
         }
     }
 
@@ -370,8 +383,8 @@ impl NodeRun {
         self.act(0);
     }
 
-    /// The output of that place was performed.
-    fn performed(&mut self, at: usize, given: Given, room: &Room)
+    /// The output of that place was performed. It gives what the bytes are that it read.
+    fn performed(&mut self, at: usize, given: Given, room: &Room) -> Decoded
         requires at { at < length self.old.outs }
         requires few { at < 40 }
         ensures runs { (log : List Line) (out : Out) (call : Call)
@@ -386,10 +399,15 @@ impl NodeRun {
         ensures settings { self.new.settings ≡ self.old.settings }
         ensures rank { self.new.me ≡ self.old.me }
         ensures keeps { KeepsEntry self.old self.new }
+        ensures decoded { (out : Out)
+            → slice_get self.old.outs at ≡ Some out
+            → result ≡ decoded_out out given room.now }
     {
         let out = self.outs.get(at);
-        self.waits = waits_after(&self.settings, self.waits, out, given, room);
+        let after = waits_after(&self.settings, self.waits, out, given, room);
+        self.waits = after.0;
         self.act(at + 1);
+        after.1
     }
 
     /// Goes on with the outputs from that place on.

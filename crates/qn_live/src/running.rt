@@ -3,9 +3,10 @@ ghost use Rattle.std.specs.Prelude.{◌≡◌, ◌≤◌, ◌<◌, false, List, 
 ghost use Rattle.qn_base.specs.declared.calls.Call.{Call};
 ghost use Rattle.qn_base.specs.Faults.{HasRisen};
 ghost use Rattle.qn_base.specs.Plans.{Did, Made};
-ghost use Rattle.qn_live.specs.Images.{RanOn, plan_on};
+ghost use Rattle.qn_live.specs.Images.{HasHeard, RanOn, plan_on};
 ghost use Rattle.qn_live.specs.Laws.{is_no_failure};
 ghost use Rattle.qn_live.specs.Runs.{live_plan};
+ghost use Rattle.qn_live.specs.Sound.{Shows};
 ghost use Rattle.qn_live.specs.TripleHalts.{HaltedOnThree};
 ghost use Rattle.qn_live.specs.TripleRuns.{triple_plan};
 ghost use Rattle.qn_model.specs.declared.outputs.BootCause.{BootCause};
@@ -39,7 +40,8 @@ pub fn run_on<E: Env, N: Notices>(
     requires valid { IsValid settings.now }
     requires configured { me.0 < length settings.now.nodes }
     requires some_turn { 1 ≤ turns }
-    ensures { RanOn E.faults E.calls E.shows env.old env.new
+    ensures { RanOn E.faults E.calls env.old env.new (λ calls. Shows E.shows env.old env.new calls
+        × HasHeard N.hears N.hears_end notices.old notices.new calls result)
         (plan_on images settings.now me.0 clean leave_at polls turns) result }
 {
     let mut run = ImagesRun::new(images, settings.copy(), me, clean, leave_at, polls, turns);
@@ -53,8 +55,8 @@ pub fn run_on<E: Env, N: Notices>(
             }
         };
         let given = call(env, asked, &mut room);
-        run.answer(given, &room);
-        notices.made(asked, given, &room, run.node_run());
+        let decoded = run.answer(given, &room);
+        notices.made(asked, given, decoded, run.node_run());
     }
 }
 

@@ -1,13 +1,15 @@
 //! The running node on three images as a machine: it names its next call, and takes the answer of that call.
 ghost use Rattle.std.specs.Prelude.{◌≡◌};
 
+use crate::decoded::Decoded;
+use crate::disk::answer;
 use crate::part::{part_of, sector_on};
 use crate::told::{Reads, Writes};
 use crate::triple_entry::read_entry;
 use crate::triple_operations::{
     answer_as, good_after_write, is_asked, is_majority, is_write, place_of, read_as,
 };
-use crate::{Asked, Given, LiveEnd, NodeRun, Room, answer, law_operation};
+use crate::{Asked, Given, LiveEnd, NodeRun, Room, law_operation};
 use qn_base::Rank;
 use qn_model::{DiskOp, Out, Settings};
 use qn_parts::Part;
@@ -37,6 +39,7 @@ impl TripleRun {
     ghost use Rattle.qn_node.specs.Outputs.{IsNodeOutput};
     ghost use Rattle.qn_base.specs.declared.calls.Call.TheVariants.{Write};
     ghost use Rattle.qn_live.specs.Asking.{IsServed, IsWithin, Tells, question_of};
+    ghost use Rattle.qn_live.specs.Decoding.{decoded_of, decoded_op};
     ghost use Rattle.qn_live.specs.Machine.{EndsWith, IsUnderWay as UnderWay, RunFor, operation_of, work};
     ghost use Rattle.qn_live.specs.Running.{Ran};
     ghost use Rattle.qn_live.specs.TripleLaws.{IsTold};
@@ -116,8 +119,9 @@ impl TripleRun {
         }
     }
 
-    /// Takes the answer of the call that was asked for, with its bytes in the room, and goes on to the next call.
-    pub fn answer(&mut self, given: Given, room: &Room)
+    /// Takes the answer of the call that was asked for, with its bytes in the room, and goes on to the next call. It gives what the bytes
+    /// are.
+    pub fn answer(&mut self, given: Given, room: &Room) -> Decoded
         requires fits { FitsPacket given.got }
         requires answered { IsAnswered self.old given room.now }
         ensures runs { (plan : Plan Ran) (call : Call)
@@ -126,13 +130,15 @@ impl TripleRun {
             → question plan ≡ Some (blank call)
             → TripleRunFor self.new (left plan call) }
         ensures work { 0 < work self.old.run → triple_work self.new < triple_work self.old }
+        ensures decoded { result ≡ decoded_of self.old.run given room.now }
     {
-        self.take(given, room);
+        let decoded = self.take(given, room);
         self.pass_over();
+        decoded
     }
 
     /// Takes the answer of the call that was asked for.
-    fn take(&mut self, given: Given, room: &Room)
+    fn take(&mut self, given: Given, room: &Room) -> Decoded
         requires under_way { IsUnderWay self.old }
         requires fits { FitsPacket given.got }
         ensures stands { (plan : Plan Ran) (call : Call)
@@ -141,19 +147,21 @@ impl TripleRun {
             → question plan ≡ Some (blank call)
             → Stands self.new (left plan call) }
         ensures work { 0 < work self.old.run → triple_work self.new < triple_work self.old }
+        ensures decoded { result ≡ decoded_of self.old.run given room.now }
     {
         law_operation();
         match self.run.operation() {
             Some(op) => self.told(op, given, room),
             None => {
-                self.run.answer(given, room);
+                let decoded = self.run.answer(given, room);
                 self.forget();
+                decoded
             }
         }
     }
 
     /// An image answered its call of this operation.
-    fn told(&mut self, op: DiskOp, given: Given, room: &Room)
+    fn told(&mut self, op: DiskOp, given: Given, room: &Room) -> Decoded
         requires under_way { IsUnderWay self.old }
         requires operation { operation_of self.old.run ≡ Some op }
         ensures stands { (plan : Plan Ran) (call : Call)
@@ -162,13 +170,16 @@ impl TripleRun {
             → question plan ≡ Some (blank call)
             → Stands self.new (left plan call) }
         ensures work { triple_work self.new < triple_work self.old }
+        ensures decoded { result ≡ decoded_op op given room.now }
     {
         law_operation();
         if is_write(op) {
             self.wrote(op, given.ok, room);
+            Decoded::Nothing
         } else {
-            let part = part_of(self.run.settings(), read_as(op), given.ok, &room.sector);
-            self.read(op, part);
+            let told = part_of(self.run.settings(), read_as(op), given.ok, &room.sector);
+            self.read(op, told.0);
+            told.1
         }
     }
 
@@ -223,8 +234,8 @@ impl TripleRun {
                 let me = self.run.rank();
                 let sector = place_of(self.run.settings(), me, op);
                 self.good = good_after_write(me, sector, written, self.good);
-                let entry = answer(self.run.settings(), op, is_majority(&written), &room.sector);
-                self.run.perform(entry);
+                let answer = answer(self.run.settings(), op, is_majority(&written), &room.sector);
+                self.run.perform(answer.entry);
                 self.forget();
             }
         }

@@ -31,7 +31,7 @@ pub struct Own {
 }
 
 /// The word of the node's own host that came, if one did: `QN`, its kind, flags below 8, and a weight.
-fn word_in(got: Got, packet: &[u8; PACKET]) -> Option<Standing>
+pub fn word_in(got: Got, packet: &[u8; PACKET]) -> Option<Standing>
     requires { FitsPacket got }
     ensures { result ≡ word_in (received got packet.now) }
 {
@@ -62,7 +62,8 @@ fn asks_to_hold(said: Standing) -> bool
 
 impl Words {
     ghost use Rattle.std.specs.Prelude.{◌≡◌, option_and_then};
-    ghost use Rattle.qn_live.specs.Words.{no_words, own_by, pulls_after, standing_by, words_after, words_at};
+    ghost use Rattle.qn_base.specs.declared.calls.Received.{Received};
+    ghost use Rattle.qn_live.specs.Words.{no_words, own_by, pulls_after, standing_by, word_in, words_after, words_at};
 
     /// Those of a host that has said nothing.
     pub fn none() -> Self
@@ -77,12 +78,11 @@ impl Words {
         }
     }
 
-    /// The words after something came at a tick.
-    pub fn after(self, tick: u64, got: Got, packet: &[u8; PACKET]) -> Self
-        requires { FitsPacket got }
-        ensures { result ≡ words_after tick (received got packet.now) self }
+    /// The words after this word came at a tick, or none.
+    pub fn after(self, tick: u64, word: Option<Standing>) -> Self
+        ensures { (got : Received) → word ≡ word_in got → result ≡ words_after tick got self }
     {
-        match word_in(got, packet) {
+        match word {
             Some(said) => Words {
                 said,
                 pulls_since: self.pulls_after(tick, said),

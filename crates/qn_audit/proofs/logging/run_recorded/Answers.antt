@@ -4,7 +4,7 @@ use Rattle.qn_audit.proofs.logging.run_recorded.Goals as goal
 pub returns : goal.returns
 returns g c =
     let ran = c.run_on.ensures in
-    let kept = logs_all g.O.Sink.written g.O.Sink.faults _ _ ran.calls ran.shown in
+    let kept = logs_all g.O.Sink.written g.O.Sink.faults _ _ ran.calls ran.shown.0 in
     record {
       did = (ran.log, record { calls = ran.calls; made = ran.made; recorded = ran.recorded; logs = kept.0; follows = ran.follows });
       same_env = kept.1;

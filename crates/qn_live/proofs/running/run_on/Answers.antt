@@ -4,7 +4,7 @@ use Rattle.qn_base.specs.Calls.{blank}
 use Rattle.qn_base.specs.Plans.{Follows, question, left}
 use Rattle.qn_base.specs.PlanSteps.{follows_call, made_none, made_then}
 use Rattle.qn_live.specs.Asking.{told, blank-told}
-use Rattle.qn_live.specs.Images.{plan_on}
+use Rattle.qn_live.specs.Images.{IsHeard, plan_on}
 use Rattle.qn_live.specs.Running.{Ran}
 use Rattle.qn_live.proofs.Shown.{over_follows, recorded_then, shows_then}
 use Rattle.qn_live.proofs.running.run_on.Goals as goal
@@ -16,6 +16,7 @@ calls-init g c = (
   c.new-run.ensures,
   made_none _ _,
   tt,
+  refl,
   refl,
   (λ more value follows. rw (← c.copy.ensures) follows),
 )
@@ -32,12 +33,12 @@ returns-in-Err g c =
       log = over.0;
       made = i.3;
       recorded = i.4;
-      shown = i.5;
-      follows = subst (λ (x : List Call). Follows whole x ran) (append-nil i.0) (i.6 [] ran ended);
+      shown = (i.5, (_, i.6, c.ended.ensures));
+      follows = subst (λ (x : List Call). Follows whole x ran) (append-nil i.0) (i.7 [] ran ended);
     }
 
-pub answer-requires-clause-answered : goal.answer-requires-clause-answered
-answer-requires-clause-answered g c =
+pub answer-decoded-requires-clause-answered : goal.answer-decoded-requires-clause-answered
+answer-decoded-requires-clause-answered g c =
     let i = c.calls.invariant in
     let made = told c.in-Ok.asked c.asks.new.room c.call-given.result c.call-given.new.room in (
       i.1,
@@ -55,9 +56,11 @@ calls-preserved g c =
     c.in-Ok.ensures.asked i.1 i.2 ∙ ap Some (sym (blank-told c.in-Ok.asked c.asks.new.room c.call-given.result c.call-given.new.room)) in (
       i.0 ++ made ∷ [],
       left i.1 made,
-      c.answer.ensures.runs i.1 made i.2 c.call-given.ensures.tells asked,
+      c.answer-decoded.ensures.runs i.1 made i.2 c.call-given.ensures.tells asked,
       made_then i.3 c.call-given.ensures.made,
       recorded_then i.0 made i.4 c.call-given.ensures.recorded,
       shows_then g.E.Env.shows _ _ _ i.0 made i.5 c.call-given.ensures.shows,
-      (λ more value follows. rw (append_assoc i.0 (made ∷ []) more) (i.6 (made ∷ more) value (follows_call i.1 made more value asked follows))),
+      shows_then (IsHeard g.N.Notices.hears) _ _ _ i.0 made i.6
+          (c.in-Ok.asked, c.call-given.result, c.asks.new.room, c.call-given.new.room, refl, c.made.ensures),
+      (λ more value follows. rw (append_assoc i.0 (made ∷ []) more) (i.7 (made ∷ more) value (follows_call i.1 made more value asked follows))),
     )

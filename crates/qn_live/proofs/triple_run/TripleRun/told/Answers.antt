@@ -7,6 +7,7 @@ use Rattle.qn_live.specs.TripleLaws.{IsTold}
 use Rattle.qn_live.specs.TripleMachine.{read_on, written_on}
 use Rattle.qn_live.specs.TripleOperations.{place_of, read_as}
 use Rattle.qn_live.proofs.Answers.{part_told}
+use Rattle.qn_live.proofs.BytesDecoded.{read_decoded, write_decoded}
 use Rattle.qn_live.proofs.Operated.{done_by_given, part_by_room}
 use Rattle.qn_live.proofs.Steps.{OperationLaw, read_call_made, write_call_made, writes_place}
 use Rattle.qn_live.proofs.Turning.{stands_too}
@@ -37,10 +38,20 @@ returns-else-is_write-clause-stands c = λ plan call h tells asked.
     let made = read_call_made law run plan h c.args.op call found reads asked in
     let place = place_of run.run.me.0 c.args.op in
     let op = read_as c.args.op in
-    let part : c.part_of-part.result ≡ part_of s op call =
-    c.part_of-part.ensures
+    let part : c.part_of-told.result.0 ≡ part_of s op call =
+    c.part_of-told.ensures.part
     ∙ (rw (c.settings.ensures, c.read_as.ensures) refl)
     ∙ part_by_room s op call c.args.given c.args.room.now tells made.reads in
     stands_too
     (made.is_left ∙ ap (λ (p : Part). read_on s run.run.me.0 run.good run.reads one op place p) (sym part))
     (c.read.ensures.stands one h.stands.runs (h.stands.told c.args.op found reads) (subst (λ (p : Part). IsTold s op p) (sym part) (part_told s op call)))
+
+pub returns-then-is_write-clause-decoded : goal.returns-then-is_write-clause-decoded
+returns-then-is_write-clause-decoded c =
+    let writes : is_write c.args.op ≡ true = cc (c.if-is_write.ensures) in
+    write_decoded c.args.op c.args.given c.args.room.now writes
+
+pub returns-else-is_write-clause-decoded : goal.returns-else-is_write-clause-decoded
+returns-else-is_write-clause-decoded c =
+    c.part_of-told.ensures.decoded
+    ∙ (rw c.read_as.ensures (read_decoded c.args.op c.args.given c.args.room.now))

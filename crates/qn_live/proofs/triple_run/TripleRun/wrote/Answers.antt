@@ -36,8 +36,8 @@ returns-in-Two-clause-stands c = λ one runs bytes asked.
     c.good_after_write-self.ensures
     ∙ (rw (c.rank-me.ensures, c.place_of-sector.ensures, c.rank-me.ensures) refl) in
     let answers = write_answered s op place bytes c.args.room.now.sector (is_majority written) c.requires.writes in
-    let given : c.answer-entry.result ≡ (if is_majority written then done s op c.args.room.now.sector else failed op) =
-    c.answer-entry.ensures ∙ (rw (c.settings-in-Two.ensures, c.is_majority.ensures) refl) in
+    let given : c.answer-answer.result.entry ≡ (if is_majority written then done s op c.args.room.now.sector else failed op) =
+    c.answer-answer.ensures.entry ∙ (rw (c.settings-in-Two.ensures, c.is_majority.ensures) refl) in
     rw c.in-Two.is
     (fresh_stands _ s run.run.me.0 (good_after_write run.run.me.0 place written run.good) _ (left one made)
     (ap (λ r. r.settings) c.forget.ensures.run ∙ c.perform.ensures.settings)
