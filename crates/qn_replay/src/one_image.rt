@@ -62,6 +62,7 @@ impl TakesEvents for World {
         (Event::Tick(Rank(0)), blank_report())
     }
 
+    #[inline(always)]
     fn read(&self, line: &[u8], into: &mut Event) -> Result<(), LineFault> {
         read_line_into(line, self.settings(), into)
     }

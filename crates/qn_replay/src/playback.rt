@@ -100,6 +100,7 @@ impl<W: TakesEvents> Playback<W> {
     }
 
     /// Puts the trace line of the last event, with its end, in place of `text`. Of the playback only what the writer keeps changes.
+    #[inline(always)]
     fn write(&mut self, text: &mut ArrayVec<u8, MOST_LINE_BYTES>)
         ensures line { text.new.items ≡ last_line W.world self.old ++ 10 ∷ [] }
         ensures kept { self.new ≡ record self.old { writer = self.new.writer } }
@@ -109,6 +110,7 @@ impl<W: TakesEvents> Playback<W> {
     }
 
     /// Puts the trace line of the last event in place of `text`, or no byte where the trace is not kept.
+    #[inline(always)]
     fn write_line(&mut self, text: &mut ArrayVec<u8, MOST_LINE_BYTES>)
         ensures line { text.new.items ≡ last_line W.world self.old }
         ensures fits { length text.new.items ≤ 4000 }
