@@ -92,6 +92,7 @@ pub trait Steps: HasNodes {
 
     /// The step of an event, if the event is allowed and there is memory for it; what it came to is written over a report
     /// that is there. What that holds after a refusal is not said.
+    #[inline(always)]
     final fn apply_into(&mut self, event: &Self::Event, into: &mut Report) -> Result<(), Refused>
         requires formed { IsFormed Self.kind self.old event.now }
         requires standing { IsStanding Self.kind self.old }

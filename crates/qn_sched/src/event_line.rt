@@ -239,6 +239,7 @@ pub fn message_worded(word: &[u8]) -> Option<Message>
 }
 
 /// A line that says the node alone.
+#[inline(always)]
 #[tactic(auto, unfolding(crate::specs::EventReading::node_event_of))]
 fn read_node_event(
     event: NodeEvent,

@@ -111,6 +111,7 @@ impl EventName {
 }
 
 /// The name that a first word is, or none.
+#[inline(always)]
 #[tactic(auto, unfolding(crate::specs::EventNames::event_name))]
 pub(crate) fn event_name(word: &[u8]) -> Option<EventName>
     ensures { result ≡ event_name word.now }

@@ -54,6 +54,7 @@ impl TraceWriter {
     }
 
     /// Adds what stands after the time at an event of a node.
+    #[inline(always)]
     fn add_touched(
         &mut self,
         into: &mut ArrayVec<u8, 4096>,
