@@ -35,6 +35,7 @@ use Rattle.qn_live.specs.Runs.{asked_maker, greets, looked_at, taken}
 use Rattle.qn_joined.specs.Stands.{Acting, Ended, Looking, Parting, Polling, Receiving, Saying, Spot, acts_at, after_spot, begun_at, clocked_by, farewells_due, log_at, opening, parts_at, polled_at, said_at, sends_due, settled_by, taking}
 use Rattle.qn_service.specs.Company.{IsNextLook}
 use Rattle.qn_service.specs.Looks.{LookOf, look_at, look_by, look_in}
+use Rattle.qn_service.proofs.SpotLogs.{acts_log}
 
 next_same : (k : Maker) → IsNextLook k k
 next_same k = record { view = refl; change = refl }
@@ -79,13 +80,13 @@ heard_next tick (Some (packet.Ask ask)) m = next_same m.maker
 heard_next tick (Some (packet.Tell tell)) m = next_same m.maker
 heard_next tick (Some (packet.Vote agrees)) m = next_same m.maker
 
-stand_next : (standing : Standing) (holds : Bool) (m : NamingMaker) → IsNextLook m.maker (after_stand standing holds m).maker
+pub stand_next : (standing : Standing) (holds : Bool) (m : NamingMaker) → IsNextLook m.maker (after_stand standing holds m).maker
 stand_next standing holds m = if_named (is_configured m.maker m.maker.me) _ m m.maker (next_same m.maker) (next_same m.maker)
 
-told_next : (tick : ℕ) (own : Own) (p : Option Packet) (m : NamingMaker) → IsNextLook m.maker (told tick own p m).maker
+pub told_next : (tick : ℕ) (own : Own) (p : Option Packet) (m : NamingMaker) → IsNextLook m.maker (told tick own p m).maker
 told_next tick own p m = next_then (heard_next tick p m) (stand_next own.said own.holds (heard tick p m))
 
-due_next : (tick : ℕ) (m : NamingMaker) → IsNextLook m.maker (after_naming_hello_due tick m).maker
+pub due_next : (tick : ℕ) (m : NamingMaker) → IsNextLook m.maker (after_naming_hello_due tick m).maker
 due_next tick m = if_named (is_naming_hello_due tick m) _ m m.maker (record { view = refl; change = refl }) (next_same m.maker)
 
 -- ## Where a run stands
@@ -165,50 +166,10 @@ module _ (s : Settings) (me : ℕ) (k : Maker) where
   noted_has st out.Disarm made has = has
   noted_has st (out.Halt halted) made has = has
 
-  -- ## The log where it stands
-
-  opening_log : (st : RunState) (late : Bool) → log_at (opening st late) ≡ st.log
-  opening_log st true = refl
-  opening_log st false = refl
-
-  taking_log : (st : RunState) (leaves rests : Bool) (stopped : Option Bool) (disk : Option What)
-      → log_at (taking (record st { waits = record { stopped = stopped; disk = disk } }) (ready leaves rests (record { stopped = stopped; disk = disk }))) ≡ st.log
-  taking_log st leaves rests (Some ok) disk = refl
-  taking_log st leaves false None (Some answer) = refl
-  taking_log st true false None None = refl
-  taking_log st false false None None = opening_log (record st { waits = record { stopped = None; disk = None } }) (is_late st)
-  taking_log st true true None disk = refl
-  taking_log st false true None disk = opening_log (record st { waits = record { stopped = None; disk = disk } }) (is_late st)
-
-  begun_log : (leave : Option ℕ) (turn more : ℕ) (st : RunState) → log_at (begun_at s me leave turn more st).spot ≡ st.log
-  begun_log leave turn zero st = refl
-  begun_log leave turn (suc more) st = taking_log st (is_to_leave s leave turn st) st.rests st.waits.stopped st.waits.disk
-
-  said_log : (leave : Option ℕ) (turn more : ℕ) (st : RunState) (sents : List Sent) → log_at (said_at s me leave turn more st sents).spot ≡ st.log
-  said_log leave turn more st [] = begun_log leave turn more st
-  said_log leave turn more st (sent ∷ rest) = refl
-
-  polled_log : (leave : Option ℕ) (turn more : ℕ) (st : RunState) (sents : List Sent) (poll : Option Poll) → log_at (polled_at s me leave turn more st sents poll).spot ≡ st.log
-  polled_log leave turn more st sents None = said_log leave turn more st sents
-  polled_log leave turn more st sents (Some poll) = refl
-
-  parts_log : (turn more : ℕ) (end : LiveEnd) (st : RunState) (sents : List Sent) → log_at (parts_at turn more end st sents).spot ≡ st.log
-  parts_log turn more end st [] = refl
-  parts_log turn more end st (sent ∷ rest) = refl
-
-  settled_log : (leave : Option ℕ) (turn more : ℕ) (entry : What) (st : RunState) (found : Option LiveEnd) → log_at (settled_by s me leave turn more entry st found).spot ≡ st.log
-  settled_log leave turn more entry st None =
-      polled_log leave turn more (polled s me (greets s me st) entry (asked_maker s me st)) (sends_due s me st) (poll_due s me (greets s me st) entry (asked_maker s me st))
-  settled_log leave turn more entry st (Some end) = parts_log turn more end st (farewells_due s me end st)
-
-  acts_log : (leave : Option ℕ) (turn more : ℕ) (entry : What) (outs rest : List Out) (st : RunState) → log_at (acts_at s me leave turn more entry outs rest st).spot ≡ st.log
-  acts_log leave turn more entry outs [] st = settled_log leave turn more entry st (end_in entry outs)
-  acts_log leave turn more entry outs (o ∷ rest) st = refl
-
   acts_live : (leave : Option ℕ) (turn more : ℕ) (entry : What) (outs rest : List Out) (st : RunState)
       → is_live (phase s (log_at (acts_at s me leave turn more entry outs rest st).spot)) ≡ true → Has k st.maker → HasAt k (acts_at s me leave turn more entry outs rest st).spot
   acts_live leave turn more entry outs rest st live has =
-      acts_has leave turn more entry outs rest st (sym (ap (λ log. is_live (phase s log)) (acts_log leave turn more entry outs rest st)) ∙ live) has
+      acts_has leave turn more entry outs rest st (sym (ap (λ log. is_live (phase s log)) (acts_log s me leave turn more entry outs rest st)) ∙ live) has
 
   -- ## A call
 

@@ -1,5 +1,5 @@
 -- What a view maker of a running node knows: the view that it has, and each that was announced to it by a member, was made by a look.
-use Rattle.std.proofs.Common.{◌≡◌, ◌⊎◌, inl, inr, ℕ, suc, zero, ◌+◌, ◌*◌, ◌/◌, ◌%◌, ◌^◌, ◌<◌, Bool, true, false, not, ◌&&◌, ◌||◌, ◌==◌, List, [], ◌∷◌, ◌++◌, map, replicate, Option, None, Some, is_some, if◌then◌else◌, refl, sym, ◌∙◌, ap, subst, arith, eq-eqb, unwrap_or}
+use Rattle.std.proofs.Common.{◌≡◌, ◌⊎◌, inl, inr, ℕ, suc, zero, ◌+◌, ◌*◌, ◌/◌, ◌%◌, ◌^◌, Bool, true, false, not, ◌&&◌, ◌==◌, List, [], ◌∷◌, ◌++◌, replicate, Option, None, Some, if◌then◌else◌, refl, sym, ◌∙◌, ap, subst, arith, eq-eqb}
 use Rattle.std.specs.Prelude.{option_and_then, option_map, slice_set}
 use Rattle.std.proofs.lemmas.Bool.{true≢false}
 use Rattle.std.proofs.lemmas.Nat.{div-mul-add}
@@ -15,8 +15,8 @@ use Rattle.qn_model.specs.declared.packets.Packet.{Packet}
 use Rattle.qn_model.specs.declared.packets.Packet.TheVariants as packet
 use Rattle.qn_model.specs.declared.packets.Sent.{Sent}
 use Rattle.qn_member.specs.Announcing.{is_announced_by, view_to_announce}
-use Rattle.qn_member.specs.Maker.{Maker, after_announce, after_hello, after_tick, first_maker, has_configured, installed, installed_beside, is_configured, looked, of_rank, plain, says_more, view_at}
-use Rattle.qn_member.specs.Naming.{NamingMaker, after_named_announce, after_named_hello, after_named_plain_hello, after_stand, after_standing, has_bit, is_other, is_own, knows_bit}
+use Rattle.qn_member.specs.Maker.{Maker, after_announce, after_hello, after_tick, first_maker, has_configured, installed_beside, is_configured, looked, of_rank, plain, says_more, view_at}
+use Rattle.qn_member.specs.Naming.{NamingMaker, after_named_announce, after_named_hello, after_stand, after_standing, has_bit, is_other, is_own, knows_bit}
 use Rattle.qn_member.specs.NamingViews.{after_by_name, after_found, after_look, after_naming_hello_due, after_plain_look, answer_at, company_now, copy_of, handed, is_closed_to, is_naming_hello_due, leads_itself, looked_by_name, seeing_names, view_announced, view_by_name, view_found}
 use Rattle.qn_member.specs.Maker as maker
 use Rattle.qn_live.specs.declared.words.Own.{Own}
@@ -78,7 +78,7 @@ module _ (s : Settings) (me : ℕ) (Q : View → Type 0) where
   if_known true one other first second = first
   if_known false one other first second = second
 
-  stand_known : (standing : Standing) (holds : Bool) (m : NamingMaker) → IsKnown m.maker → IsKnown (after_stand standing holds m).maker
+  pub stand_known : (standing : Standing) (holds : Bool) (m : NamingMaker) → IsKnown m.maker → IsKnown (after_stand standing holds m).maker
   stand_known standing holds m known = subst IsKnown (sym (if_maker (is_configured m.maker m.maker.me) _ m m.maker refl refl)) known
 
   pub begun_known : (loop_ms : ℕ) (own : Own) → IsKnown (maker_begun s me loop_ms own).maker
@@ -107,7 +107,7 @@ module _ (s : Settings) (me : ℕ) (Q : View → Type 0) where
       if_known (is_other m from && has_bit standing.flags knows_bit) _ m
       (record { nodes = known.nodes; own = known.own; present = known.present; announced = known.announced }) known
 
-  announce_by : (b : Bool) (from : ℕ) (view : View) (k : Maker) → IsKnown k → (is_member view.members from ≡ true → Q view)
+  announce_by : (b : Bool) (from : ℕ) (view : View) (k : Maker) → IsKnown k → (b ≡ true → is_member view.members from ≡ true → Q view)
       → IsKnown (if b then record k { hellos = maker.hellos_after from view k; announced = slice_set k.announced from (Some view); greatest = Rattle.std.proofs.Common.max k.greatest (Rattle.qn_candidate.specs.Numbers.without_name view.id) } else k)
   announce_by false from view k known word = known
   announce_by true from view k known word =
@@ -120,21 +120,24 @@ module _ (s : Settings) (me : ℕ) (Q : View → Type 0) where
     where
       by_place : (rank : ℕ) (v : View) → is_member v.members rank ≡ true → ((rank ≡ from) × (view ≡ v)) ⊎ (of_rank k.announced rank ≡ Some v) → Q v
       by_place rank v member (inl (place, same)) =
-          subst Q same (word (subst (λ r. is_member view.members r ≡ true) place (subst (λ (x : View). is_member x.members rank ≡ true) (sym same) member)))
+          subst Q same (word refl (subst (λ r. is_member view.members r ≡ true) place (subst (λ (x : View). is_member x.members rank ≡ true) (sym same) member)))
       by_place rank v member (inr old) = known.announced rank v old member
 
-  announce_known : (from : ℕ) (view : View) (m : NamingMaker) → IsKnown m.maker → (is_member view.members from ≡ true → Q view) → IsKnown (after_named_announce from view m).maker
+  -- an announcement is passed over where not all its members are configured
+  pub announce_known : (from : ℕ) (view : View) (m : NamingMaker) → IsKnown m.maker
+      → ((is_configured m.maker from && has_configured m.maker.nodes view.members) ≡ true → is_member view.members from ≡ true → Q view)
+      → IsKnown (after_named_announce from view m).maker
   announce_known from view m known word =
       let counts = is_configured m.maker from && has_configured m.maker.nodes view.members in
       subst IsKnown (sym (if_maker counts _ _ (after_announce from view m.maker) refl refl))
       (announce_by counts from view m.maker known word)
 
-  heard_known : (tick : ℕ) (p : Option Packet) (m : NamingMaker) → IsKnown m.maker → Word Q p → IsKnown (heard tick p m).maker
+  pub heard_known : (tick : ℕ) (p : Option Packet) (m : NamingMaker) → IsKnown m.maker → Word Q p → IsKnown (heard tick p m).maker
   heard_known tick None m known word = known
   heard_known tick (Some (packet.Hello from)) m known word = plain_hello_by (is_configured m.maker from.0 && not (says_more tick m.maker from.0)) tick from.0 m known
   heard_known tick (Some (packet.Heard from said standing)) m known word =
       standing_known from.0 standing (after_named_hello tick from.0 said m) (named_hello_known tick from.0 said m known)
-  heard_known tick (Some (packet.Announce from view)) m known word = announce_known from.0 view m known word
+  heard_known tick (Some (packet.Announce from view)) m known word = announce_known from.0 view m known (λ counts. word)
   heard_known tick (Some (packet.Ask ask)) m known word = known
   heard_known tick (Some (packet.Tell tell)) m known word = known
   heard_known tick (Some (packet.Vote agrees)) m known word = known
@@ -222,7 +225,7 @@ answer_made s me Q tick m made known v is free = handed_made Q (after_found tick
 
 -- ## What is said
 
-due_known : (s : Settings) (me : ℕ) (Q : View → Type 0) (tick : ℕ) (m : NamingMaker) → Knows s me Q m.maker → Knows s me Q (after_naming_hello_due tick m).maker
+pub due_known : (s : Settings) (me : ℕ) (Q : View → Type 0) (tick : ℕ) (m : NamingMaker) → Knows s me Q m.maker → Knows s me Q (after_naming_hello_due tick m).maker
 due_known s me Q tick m known = by_due (is_naming_hello_due tick m)
   where
     by_due : (b : Bool) → Knows s me Q (if b

@@ -1,9 +1,11 @@
 pub mod Between
 pub mod ByTheImage
 pub mod Company
+pub mod Configured
 pub mod Counting
 pub mod Early
 pub mod Everywhere
+pub mod Flags
 pub mod Followers
 pub mod GoingOn
 pub mod Handing
@@ -11,20 +13,26 @@ pub mod Heard
 pub mod Holders
 pub mod Holding
 pub mod KeptLoops
+mod KeptRows
 pub mod KeptViews
 pub mod Knowing
 pub mod Least
 pub mod LeftOut
+pub mod LogViews
 pub mod Made
 pub mod NextLooks
 pub mod OneStop
+pub mod OneView
 pub mod Outside
 pub mod Owner
+pub mod RankSteps
 pub mod Ranks
 pub mod Resets
 mod Rows
 pub mod ServedBy
 mod ServingRows
+pub mod Shown
+pub mod SpotLogs
 pub mod Steps
 pub mod Timing
 pub mod Tracing

@@ -5,7 +5,7 @@ use Rattle.std.proofs.lemmas.Bool.{and_parts, eqb-true}
 use Rattle.std.proofs.lemmas.Option.{none-some, same_Some}
 use Rattle.qn_base.specs.declared.ids.View.{View}
 use Rattle.qn_base.specs.Members.{is_member}
-use Rattle.qn_member.specs.Maker.{Maker, company_at, company_under, follows_other, followed_view, is_first_due, is_led, is_present, is_present_member, is_taken, is_visible, leader_at, led_by, led_nodes, looked, may_install, members_at, next_view, of_rank, own_view, view_at, view_under, visible_nodes}
+use Rattle.qn_member.specs.Maker.{Maker, company_at, followed_view, is_taken, leader_at, led_by, looked, may_install, of_rank, own_view, view_at}
 use Rattle.qn_member.specs.Naming.{NamingMaker, is_own, knows_bit}
 use Rattle.qn_member.specs.NamingViews.{company_now, followed_by_age, is_led_by, is_newer_of, is_proven, lead_since, leading, looked_by_name, may_begin, own_by_name, said_by_name, seeing_names, view_by_name, view_found}
 use Rattle.qn_member.specs.Maker as maker
@@ -41,12 +41,12 @@ filtered test (Some x) a is = by_test (test x) refl is
     by_test false fails is = absurd (none-some a is)
 
 -- a view that is followed was announced, and has both
-record Followed (m : Maker) (leader : ℕ) (view : View) : Type 0 where
-  announced : of_rank m.announced leader ≡ Some view
-  has_leader : is_member view.members leader ≡ true
-  has_own : is_member view.members m.me ≡ true
+pub record Followed (m : Maker) (leader : ℕ) (view : View) : Type 0 where
+  pub announced : of_rank m.announced leader ≡ Some view
+  pub has_leader : is_member view.members leader ≡ true
+  pub has_own : is_member view.members m.me ≡ true
 
-followed_was : (m : Maker) (leader : ℕ) (view : View) → followed_view m leader ≡ Some view → Followed m leader view
+pub followed_was : (m : Maker) (leader : ℕ) (view : View) → followed_view m leader ≡ Some view → Followed m leader view
 followed_was m leader view is =
     let both = filtered (is_taken m leader) (of_rank m.announced leader) view is in
     let parts = and_parts (is_member view.members m.me && is_member view.members leader) _ both.1 in
@@ -76,7 +76,7 @@ next_was true None me own taken view is = absurd (none-some view is)
 next_was false leader me own taken view is = absurd (none-some view is)
 
 -- an older view is taken as any other
-aged : (tick : ℕ) (m : NamingMaker) (leader : ℕ) (view : View) → followed_by_age tick m leader ≡ Some view → followed_view m.maker leader ≡ Some view
+pub aged : (tick : ℕ) (m : NamingMaker) (leader : ℕ) (view : View) → followed_by_age tick m leader ≡ Some view → followed_view m.maker leader ≡ Some view
 aged tick m leader view = by_known (maker.is_configured m.maker leader)
   where
     by_known : (b : Bool) → (if b then option_and_then (λ seen. if is_newer_of m leader seen || is_proven tick m then Some seen else None) (followed_view m.maker leader) else None) ≡ Some view

@@ -16,13 +16,13 @@ use Rattle.qn_service.proofs.Ranks.{fails_out, not_all_in, out_fails, passes_in}
 -- ## Who is out of a view of these members
 
 -- how the members of a view come of a company: all are known; there was no view; or nobody is in dispute
-abbrev CameBy : Bool → Bool → Bool → Mask → Mask → Mask → Type 0
+abbrev pub CameBy : Bool → Bool → Bool → Mask → Mask → Mask → Type 0
 CameBy known first disputed company kept members =
     ((known ≡ true) × (company ≡ members))
     ⊎ (((first ≡ true) × (company ≡ members))
     ⊎ ((disputed ≡ false) × ((company ≡ members) ⊎ (kept ≡ members))))
 
-came_by : (known first quiet disputed steady due : Bool) (company kept members : Mask)
+pub came_by : (known first quiet disputed steady due : Bool) (company kept members : Mask)
     → (if known then Some company
     else (if first then (if quiet then Some company else None)
     else (if disputed then None

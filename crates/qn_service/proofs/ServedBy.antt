@@ -148,18 +148,18 @@ module _ (s : Settings) (t : Timing) (image : ℕ → List ℕ) (pace : Pace) (p
 
   quorate_at : (other : ℕ) → is_member present.members other ≡ true → (m : List Moment) → Before old m → Before m new
       → quorate_with_tie s (node s other m).log (now (node s other m).log) ≡ true
-  quorate_at other member m since back = laws.majority s present.members (node s other m).log present (now (node s other m).log) have.majority (sees_at other member m since back).sees refl
+  quorate_at other member m since back = laws.majority s present.members (node s other m).log present (now (node s other m).log) have.serves.majority (sees_at other member m since back).sees refl
 
   -- ## The chosen one
 
   rank_at : (at : List Happening) → Before older at → Before at newer → HasView s image present rank at
-  rank_at at since back = member_at rank have.member at since back
+  rank_at at since back = member_at rank have.serves.member at since back
 
   start_sees : view start ≡ Some present
   start_sees = (rank_at older Itself (joints_grow trace)).sees
 
   rank_old : IsOn s rank ((joint_after s image older).hosts rank) old
-  rank_old = on_at rank have.member older Itself (joints_grow trace) first (first_world trace)
+  rank_old = on_at rank have.serves.member older Itself (joints_grow trace) first (first_world trace)
 
   abbrev IsPacedLog : List Line → ℕ → Type 0
   IsPacedLog l c =
@@ -170,20 +170,20 @@ module _ (s : Settings) (t : Timing) (image : ℕ → List ℕ) (pace : Pace) (p
 
   paced_at : (m : List Moment) → Before old m → Before m new → ((node s rank m).on ≡ true) × IsPacedLog (node s rank m).log (node s rank m).clock
   paced_at m since back =
-      each_moment rank have.member IsPacedLog
-      (λ at a b. let paced = have.paced at a b in (paced.installs, paced.gentle, paced.turns, paced.answers)) m since back
+      each_moment rank have.serves.member IsPacedLog
+      (λ at a b. let paced = have.serves.paced at a b in (paced.installs, paced.gentle, paced.turns, paced.answers)) m since back
 
   quiet_at : (m : List Moment) → Before old m → Before m new → IsQuiet s rank pace (install (node s rank old).log) m
   quiet_at m since back =
       let paced = paced_at m since back in
-      let under = sees_at rank have.member m since back in
+      let under = sees_at rank have.serves.member m since back in
       record {
         on = under.on;
         up = under.up;
         view = paced.1.0 ∙ sym (ap install rank_old.log);
-        free = released_at s have.majority.wait_for_all (votes (node s rank m).log);
-        quorate = quorate_at rank have.member m since back;
-        chosen = chosen_alike s rank (node s rank m).log start (under.sees ∙ sym start_sees) ∙ have.chosen;
+        free = released_at s have.serves.majority.wait_for_all (votes (node s rank m).log);
+        quorate = quorate_at rank have.serves.member m since back;
+        chosen = chosen_alike s rank (node s rank m).log start (under.sees ∙ sym start_sees) ∙ have.serves.chosen;
         gentle = paced.1.1;
         turns = paced.1.2;
         answers = paced.1.3;
@@ -198,7 +198,7 @@ module _ (s : Settings) (t : Timing) (image : ℕ → List ℕ) (pace : Pace) (p
   read_by : (m : List Moment) → Before old m → Before m new → now (node s rank m).log ≤ tick_of (node s rank m).clock
   read_by m since back =
       let is = of_joint trace m since back in
-      subst (λ (ms : List Moment). now (node s rank ms).log ≤ tick_of (node s rank ms).clock) is.same (on_at rank have.member is.at is.after is.back is.events is.world).tick
+      subst (λ (ms : List Moment). now (node s rank ms).log ≤ tick_of (node s rank ms).clock) is.same (on_at rank have.serves.member is.at is.after is.back is.events is.world).tick
 
   now_after : (newest : Moment) (m : List Moment) → UpMove s rank newest (node s rank m) (node s rank (newest ∷ m)) → now (node s rank m).log ≤ tick_of (node s rank m).clock
       → now (node s rank (newest ∷ m)).log ≤ tick_of (node s rank m).clock
@@ -221,7 +221,7 @@ module _ (s : Settings) (t : Timing) (image : ℕ → List ℕ) (pace : Pace) (p
       by_order : (limit < tick_of (node s rank m).clock) ⊎ (tick_of (node s rank m).clock ≤ limit) → (limit < tick_of (node s rank m).clock → FirstAfter limit) → FirstAfter limit
       by_order (inl before) rest = rest before
       by_order (inr before) rest =
-          let read = now_after last m (up_move s rank last m (ups rank have.member (last ∷ m) (Later last since) back)) (read_by m since (before_tail back)) in
+          let read = now_after last m (up_move s rank last m (ups rank have.serves.member (last ∷ m) (Later last since) back)) (read_by m since (before_tail back)) in
           let paced = (paced_at (last ∷ m) (Later last since) back).1.2 in
           record { mid = last ∷ m; since = Later last since; back = back; late = late; soon = omega (arith, before, read, paced) }
 
@@ -235,7 +235,7 @@ module _ (s : Settings) (t : Timing) (image : ℕ → List ℕ) (pace : Pace) (p
 
   overs : DelaysOver s (tick_of (node s rank old).clock) (node s rank old).log
   overs = subst (λ (l : List Line). DelaysOver s (tick_of (node s rank old).clock) l) (sym rank_old.log)
-      (subst (λ c. DelaysOver s (tick_of c) start) (sym rank_old.clock) have.over)
+      (subst (λ c. DelaysOver s (tick_of c) start) (sym rank_old.clock) have.serves.over)
 
   -- ## The others
 
@@ -249,7 +249,7 @@ module _ (s : Settings) (t : Timing) (image : ℕ → List ℕ) (pace : Pace) (p
       → KeepsOn s other old new
   keeps_on other member a a_since a_back kept =
       record {
-        calm = ap stop_due (on_at other member older Itself (joints_grow trace) first (first_world trace)).log ∙ have.calm other member;
+        calm = ap stop_due (on_at other member older Itself (joints_grow trace) first (first_world trace)).log ∙ have.serves.calm other member;
         since = keeps_since s t image other old new each since_old;
       }
     where
@@ -259,7 +259,7 @@ module _ (s : Settings) (t : Timing) (image : ℕ → List ℕ) (pace : Pace) (p
           record { on = under.on; up = under.up; quorate = quorate_at other member m since back; kept = given_there other member a m a_since a_back since back kept }
 
   rank_keeps : KeepsOn s rank old new
-  rank_keeps = keeps_on rank have.member old Itself since_old (ap (λ (l : List Line). is_given_away s rank l) rank_old.log ∙ chosen_keeps s rank start have.chosen)
+  rank_keeps = keeps_on rank have.serves.member old Itself since_old (ap (λ (l : List Line). is_given_away s rank l) rank_old.log ∙ chosen_keeps s rank start have.serves.chosen)
 
   -- another member that held at some moment keeps on
   held_keeps : (other : ℕ) → is_member present.members other ≡ true → ¬ (other ≡ rank) → (mid : List Moment) → Before mid new → HasHeld s other old mid → KeepsOn s other old new
@@ -278,28 +278,28 @@ module _ (s : Settings) (t : Timing) (image : ℕ → List ℕ) (pace : Pace) (p
       holds_there = sym (ap holds log_is) ∙ (and_parts (node s other held.at).on (holds (node s other held.at).log) held.holds).1
 
       away : is_given_away s other (node s other held.at).log ≡ false
-      away = ap (λ (l : List Line). is_given_away s other l) log_is ∙ have.kept other member apart is.at is.after is.back holds_there
+      away = ap (λ (l : List Line). is_given_away s other l) log_is ∙ have.serves.kept other member apart is.at is.after is.back holds_there
 
   hears_of : (other : ℕ) → is_member present.members other ≡ true → ¬ (other ≡ rank) → (mid : List Moment) → Before old mid → Before mid new
       → tick_of (node s rank old).clock + t.loop_ms + pace.turn + post + post < tick_of (node s rank mid).clock
       → HearsQuietly s t rank pace post present other old mid
   hears_of other member apart mid since back late =
       record {
-        fast = have.fast;
+        fast = have.serves.fast;
         since = quiet_between old mid Itself since back;
         over = overs;
         late = late;
         sees = ap view rank_old.log ∙ start_sees;
-        has_both = (have.member, member);
-        configured = (have.majority.configured rank have.member, have.majority.configured other member);
+        has_both = (have.serves.member, member);
+        configured = (have.serves.majority.configured rank have.serves.member, have.serves.majority.configured other member);
         apart = apart;
-        asked = (have.asked.0, ap (λ (l : List Line). moment s l) rank_old.log ∙ have.asked.1);
-        claims = (have.claims.0, ap incarnation rank_old.log ∙ have.claims.1);
+        asked = (have.serves.asked.0, ap (λ (l : List Line). moment s l) rank_old.log ∙ have.serves.asked.1);
+        claims = (have.serves.claims.0, ap incarnation rank_old.log ∙ have.serves.claims.1);
         under = λ m a b. sees_at other member m a (before_then b back);
-        asks_come = delivers s t image rank post rank other older newer first events trace (lives rank have.member) (lives rank have.member) (lives other member) (ups rank have.member)
-            (have.asks_come other member apart) mid since back;
-        tells_come = delivers s t image rank post other rank older newer first events trace (lives rank have.member) (lives other member) (lives rank have.member) (ups rank have.member)
-            (have.tells_come other member apart) mid since back;
+        asks_come = delivers s t image rank post rank other older newer first events trace (lives rank have.serves.member) (lives rank have.serves.member) (lives other member) (ups rank have.serves.member)
+            (have.serves.asks_come other member apart) mid since back;
+        tells_come = delivers s t image rank post other rank older newer first events trace (lives rank have.serves.member) (lives other member) (lives rank have.serves.member) (ups rank have.serves.member)
+            (have.serves.tells_come other member apart) mid since back;
       }
 
   -- ## Each other member was heard, or one of them held
@@ -378,10 +378,10 @@ module _ (s : Settings) (t : Timing) (image : ℕ → List ℕ) (pace : Pace) (p
       by_heard middle (inl free) =
           record {
             owner = rank;
-            member = have.member;
+            member = have.serves.member;
             holds = laws.takes s t pace rank old middle.mid new timed_new
                 (record {
-                  fast = have.fast;
+                  fast = have.serves.fast;
                   first = quiet_between old middle.mid Itself middle.since middle.back;
                   since = quiet_between middle.mid new middle.since middle.back Itself;
                   over = overs;
@@ -393,7 +393,7 @@ module _ (s : Settings) (t : Timing) (image : ℕ → List ℕ) (pace : Pace) (p
         where
           all_heard : HasHeardAll s rank (node s rank middle.mid).log
           all_heard other below inside apart =
-              free other below (sym (ap (λ (o : Option View). option_map_or (λ v. is_member v.members other) o false) (sees_at rank have.member middle.mid middle.since middle.back).sees) ∙ inside) apart
+              free other below (sym (ap (λ (o : Option View). option_map_or (λ v. is_member v.members other) o false) (sees_at rank have.serves.member middle.mid middle.since middle.back).sees) ∙ inside) apart
 
           late_enough : tick_of (node s rank old).clock + take_over_ticks t pace (outside s (node s rank old).log) ≤ tick_of (node s rank new).clock
           late_enough = subst (λ (l : List Line). tick_of (node s rank old).clock + take_over_ticks t pace (outside s l) ≤ tick_of (node s rank new).clock) (sym rank_old.log)
@@ -418,8 +418,8 @@ module _ (s : Settings) (t : Timing) (image : ℕ → List ℕ) (pace : Pace) (p
       (laws.slow s t new old new rank timed_new (record {
         order = since_old;
         back = Itself;
-        same = (runs_up s rank old new since_old (ups rank have.member)).same;
-        on = (sees_at rank have.member new since_old Itself).on;
+        same = (runs_up s rank old new since_old (ups rank have.serves.member)).same;
+        on = (sees_at rank have.serves.member new since_old Itself).on;
       }))
       (subst (λ k. 100 * serving_ticks t pace post (outside s start) + 99 * k ≤ 99 * time new) (sym (first_world trace).time)
       (subst (λ k. 100 * serving_ticks t pace post (outside s start) + 99 * (joint_after s image older).time ≤ 99 * k) (sym (last_world trace).1.time) late)))

@@ -16,128 +16,128 @@ use Rattle.qn_progress.specs.Majority.{IsMajority}
 use Rattle.qn_progress.specs.Pace.{Pace, total}
 use Rattle.qn_progress.specs.Quiet.{DelaysOver}
 use Rattle.qn_joined.specs.Joints.{Feeds, Happening, Lands, Passes, Returns}
-use Rattle.qn_service.specs.Serving.{HasView, HaveOneView, IsPaced, MembersAreMet, clock_at}
+use Rattle.qn_service.specs.Serving.{HasView, HaveOneView, IsPaced, MayServe, MembersAreMet, clock_at}
 use Rattle.qn_service.specs.Unheard.{log_after}
 use Rattle.qn_service.proofs.WellRows.{MayBe, below_one, fresh_image, image_fits, image_is_new, quick_ticks, row_steps, starts_may, starts_then}
 
-abbrev alone : View
+abbrev pub alone : View
 alone = record { id = 72057594037927937; members = record { 0 = 1 } }
 
-abbrev slow_pace : Pace
+abbrev pub slow_pace : Pace
 slow_pace = record { disk = 0; turn = 800 }
 
 -- what is so at each joint between
-data EachAfter (P : List Happening → Type 0) (older : List Happening) : List Happening → Type 0 where
+pub data EachAfter (P : List Happening → Type 0) (older : List Happening) : List Happening → Type 0 where
   Here : P older → EachAfter P older older
   Next : (newest : Happening) {newer : List Happening} → EachAfter P older newer → P (newest ∷ newer) → EachAfter P older (newest ∷ newer)
 
-each_after : (P : List Happening → Type 0) {older newer : List Happening} → EachAfter P older newer → (mid : List Happening) → Before older mid → Before mid newer → P mid
+pub each_after : (P : List Happening → Type 0) {older newer : List Happening} → EachAfter P older newer → (mid : List Happening) → Before older mid → Before mid newer → P mid
 each_after P (Here is) mid since back = subst P (before_same since (before_length back)) is
 each_after P (Next newest before is) mid since Itself = is
 each_after P (Next newest before is) mid since (Later same back) = each_after P before mid since back
 
 -- the node is well at a joint
-record IsWell (h : List Happening) : Type 0 where
-  has : HasView one_node fresh_image alone 0 h
-  paced : IsPaced one_node fresh_image slow_pace 1 0 h
+pub record IsWell (h : List Happening) : Type 0 where
+  pub has : HasView one_node fresh_image alone 0 h
+  pub paced : IsPaced one_node fresh_image slow_pace 1 0 h
 
-abbrev then_0 : List Happening
+abbrev pub then_0 : List Happening
 then_0 = Returns 0 (call.Start true) ∷ starts_then
 
-abbrev then_1 : List Happening
+abbrev pub then_1 : List Happening
 then_1 = Passes 800 [] ∷ then_0
 
-abbrev then_2 : List Happening
+abbrev pub then_2 : List Happening
 then_2 = Returns 0 (call.Receive received.Nothing) ∷ then_1
 
-abbrev then_3 : List Happening
+abbrev pub then_3 : List Happening
 then_3 = Returns 0 (call.Now 800) ∷ then_2
 
-abbrev then_4 : List Happening
+abbrev pub then_4 : List Happening
 then_4 = Lands 0 ∷ then_3
 
-abbrev then_5 : List Happening
+abbrev pub then_5 : List Happening
 then_5 = Returns 0 (call.Read (mail_place 0) (mail_bytes (anonymous message.Empty)) true) ∷ then_4
 
-abbrev then_6 : List Happening
+abbrev pub then_6 : List Happening
 then_6 = Returns 0 (call.Now 800) ∷ then_5
 
-abbrev then_7 : List Happening
+abbrev pub then_7 : List Happening
 then_7 = Returns 0 (call.Feed true) ∷ then_6
 
-abbrev then_8 : List Happening
+abbrev pub then_8 : List Happening
 then_8 = Feeds 0 ∷ then_7
 
-abbrev then_9 : List Happening
+abbrev pub then_9 : List Happening
 then_9 = Passes 800 [] ∷ then_8
 
-abbrev then_10 : List Happening
+abbrev pub then_10 : List Happening
 then_10 = Returns 0 (call.Receive received.Nothing) ∷ then_9
 
-abbrev then_11 : List Happening
+abbrev pub then_11 : List Happening
 then_11 = Returns 0 (call.Now 1600) ∷ then_10
 
-abbrev then_12 : List Happening
+abbrev pub then_12 : List Happening
 then_12 = Lands 0 ∷ then_11
 
-abbrev then_13 : List Happening
+abbrev pub then_13 : List Happening
 then_13 = Returns 0 (call.Read (mail_place 0) (mail_bytes (anonymous message.Empty)) true) ∷ then_12
 
-abbrev then_14 : List Happening
+abbrev pub then_14 : List Happening
 then_14 = Returns 0 (call.Now 1600) ∷ then_13
 
-abbrev then_15 : List Happening
+abbrev pub then_15 : List Happening
 then_15 = Returns 0 (call.Feed true) ∷ then_14
 
-abbrev then_16 : List Happening
+abbrev pub then_16 : List Happening
 then_16 = Feeds 0 ∷ then_15
 
-abbrev then_17 : List Happening
+abbrev pub then_17 : List Happening
 then_17 = Passes 800 [] ∷ then_16
 
-abbrev then_18 : List Happening
+abbrev pub then_18 : List Happening
 then_18 = Returns 0 (call.Receive received.Nothing) ∷ then_17
 
-abbrev then_19 : List Happening
+abbrev pub then_19 : List Happening
 then_19 = Returns 0 (call.Now 2400) ∷ then_18
 
-abbrev then_20 : List Happening
+abbrev pub then_20 : List Happening
 then_20 = Lands 0 ∷ then_19
 
-abbrev then_21 : List Happening
+abbrev pub then_21 : List Happening
 then_21 = Returns 0 (call.Read (mail_place 0) (mail_bytes (anonymous message.Empty)) true) ∷ then_20
 
-abbrev then_22 : List Happening
+abbrev pub then_22 : List Happening
 then_22 = Returns 0 (call.Now 2400) ∷ then_21
 
-abbrev then_23 : List Happening
+abbrev pub then_23 : List Happening
 then_23 = Returns 0 (call.Feed true) ∷ then_22
 
-abbrev then_24 : List Happening
+abbrev pub then_24 : List Happening
 then_24 = Feeds 0 ∷ then_23
 
-abbrev then_25 : List Happening
+abbrev pub then_25 : List Happening
 then_25 = Passes 800 [] ∷ then_24
 
-abbrev then_26 : List Happening
+abbrev pub then_26 : List Happening
 then_26 = Returns 0 (call.Receive received.Nothing) ∷ then_25
 
-abbrev then_27 : List Happening
+abbrev pub then_27 : List Happening
 then_27 = Returns 0 (call.Now 3200) ∷ then_26
 
-abbrev then_28 : List Happening
+abbrev pub then_28 : List Happening
 then_28 = Lands 0 ∷ then_27
 
-abbrev then_29 : List Happening
+abbrev pub then_29 : List Happening
 then_29 = Returns 0 (call.Read (mail_place 0) (mail_bytes (anonymous message.Empty)) true) ∷ then_28
 
-abbrev then_30 : List Happening
+abbrev pub then_30 : List Happening
 then_30 = Returns 0 (call.Now 3200) ∷ then_29
 
-abbrev then_31 : List Happening
+abbrev pub then_31 : List Happening
 then_31 = Returns 0 (call.Feed true) ∷ then_30
 
-abbrev then_32 : List Happening
+abbrev pub then_32 : List Happening
 then_32 = Feeds 0 ∷ then_31
 
 infixr 5 ◌▸◌
@@ -187,7 +187,7 @@ may_24 =
     (below_one _ refl, refl) ▸
     may_16
 
-may_32 : MayBe then_32
+pub may_32 : MayBe then_32
 unfolding row_steps
 may_32 =
     (refl, refl) ▸
@@ -477,7 +477,7 @@ all_well =
     Next _ (Next _ (Next _ (Next _ (Next _ (Next _ (Next _ (Next _ (Next _ (Next _ (Next _ (Next _ (Next _ (Next _ (Next _ (Next _ (Next _ (Next _ (Next _ (Next _ (Next _ (Next _ (Next _ (Next _ (Next _ (Next _ (Next _ (Next _ (Next _ (Next _ (Next _ (Next _ (Next _ (Here well_start) well_0) well_1) well_2) well_3) well_4) well_5) well_6) well_7) well_8) well_9) well_10) well_11) well_12) well_13) well_14) well_15) well_16) well_17) well_18) well_19) well_20) well_21) well_22) well_23) well_24) well_25) well_26) well_27) well_28) well_29) well_30) well_31) well_32
 
 -- it is the one member
-only_member : (rank : ℕ) → is_member (record { 0 = 1 }) rank ≡ true → rank ≡ 0
+pub only_member : (rank : ℕ) → is_member (record { 0 = 1 }) rank ≡ true → rank ≡ 0
 only_member zero member = refl
 only_member (suc rank) member = absurd (false≢true (sym (ap (λ bit. bit == 1) (bit_at-suc 1 rank ∙ bit_at-zero rank)) ∙ member))
 
@@ -492,7 +492,7 @@ majority =
       last_man = refl;
     }
 
-well_at : (mid : List Happening) → Before starts_then mid → Before mid then_32 → IsWell mid
+pub well_at : (mid : List Happening) → Before starts_then mid → Before mid then_32 → IsWell mid
 well_at mid since back = each_after IsWell all_well mid since back
 
 calm_there : stop_due (log_after one_node fresh_image starts_then 0) ≡ false
@@ -503,14 +503,13 @@ over_there : DelaysOver one_node (clock_at one_node fresh_image starts_then 0) (
 unfolding row_steps
 over_there = below_one _ (λ outside. absurd (false≢true (sym outside)))
 
-have_view : HaveOneView one_node quick_ticks fresh_image slow_pace 0 0 alone starts_then then_32
+pub may_serve : MayServe one_node quick_ticks fresh_image slow_pace 0 0 alone starts_then then_32
 unfolding row_steps
-have_view =
+may_serve =
     record {
       majority = majority;
       fast = leb-true _ _ refl;
       member = refl;
-      members = λ other member mid since back. subst (λ r. HasView one_node fresh_image alone r mid) (sym (only_member other member)) (well_at mid since back).has;
       chosen = refl;
       paced = λ mid since back. (well_at mid since back).paced;
       over = over_there;
@@ -522,8 +521,15 @@ have_view =
       tells_come = λ other member apart. absurd (apart (only_member other member));
     }
 
+have_view : HaveOneView one_node quick_ticks fresh_image slow_pace 0 0 alone starts_then then_32
+have_view =
+    record {
+      members = λ other member mid since back. subst (λ r. HasView one_node fresh_image alone r mid) (sym (only_member other member)) (well_at mid since back).has;
+      serves = may_serve;
+    }
+
 -- what happens after it started
-abbrev goes_on : List Happening
+abbrev pub goes_on : List Happening
 goes_on =
     Feeds 0
     ∷ Returns 0 (call.Feed true)

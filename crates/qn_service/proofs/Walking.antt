@@ -63,11 +63,11 @@ maker_at (Parting end sent rest st) = st.maker
 maker_at (Ended ran) = None
 
 -- an answer that waits is no view
-abbrev is_no_view : Option What → Bool
+abbrev pub is_no_view : Option What → Bool
 is_no_view None = true
 is_no_view (Some answer) = not (is_view answer)
 
-abbrev chooses_view : Choice → Bool
+abbrev pub chooses_view : Choice → Bool
 chooses_view (choice.Whole entry) = is_view entry
 chooses_view (choice.Open p) = false
 chooses_view (choice.Answer reply) = false
@@ -82,7 +82,7 @@ views_in (Parting end sent rest st) = false
 views_in (Ended ran) = false
 
 -- the packet that the view maker is to hear
-abbrev packet_chosen : Choice → Option Packet
+abbrev pub packet_chosen : Choice → Option Packet
 packet_chosen (choice.Open p) = p
 packet_chosen (choice.Whole entry) = None
 packet_chosen (choice.Answer reply) = None
@@ -230,11 +230,11 @@ acts_stands s me Q leave turn more entry outs (o ∷ rest) st fine = record { ma
 -- ## An entry
 
 -- the view after an entry is that of the entry, or the one before
-read_view : (fit : Bool) (entry : What) (v : View) → view_of (if fit then entry else what.Tick) ≡ Some v → view_of entry ≡ Some v
+pub read_view : (fit : Bool) (entry : What) (v : View) → view_of (if fit then entry else what.Tick) ≡ Some v → view_of entry ≡ Some v
 read_view true entry v is = is
 read_view false entry v is = absurd (none-some v is)
 
-new_or_old : (new old : Option View) (v : View) → option_or new old ≡ Some v → (new ≡ Some v) ⊎ (old ≡ Some v)
+pub new_or_old : (new old : Option View) (v : View) → option_or new old ≡ Some v → (new ≡ Some v) ⊎ (old ≡ Some v)
 new_or_old None old v is = inr is
 new_or_old (Some seen) old v is = inl is
 
@@ -316,7 +316,7 @@ taken_fine s me Q st tick own (choice.Open p) (Some before) known shows waits pl
 
 -- ## A call
 
-entry_no_view : (p : Packet) → is_view (entry_of p) ≡ false
+pub entry_no_view : (p : Packet) → is_view (entry_of p) ≡ false
 entry_no_view (packet.Ask ask) = refl
 entry_no_view (packet.Tell tell) = refl
 entry_no_view (packet.Vote agrees) = refl
@@ -325,9 +325,9 @@ entry_no_view (packet.Heard from said standing) = refl
 entry_no_view (packet.Announce from said) = refl
 
 -- what is chosen of what came is no view, and its packet is the one that came
-record Chosen (Q : View → Type 0) (chosen : Choice) : Type 0 where
-  plain : chooses_view chosen ≡ false
-  word : Word Q (packet_chosen chosen)
+pub record Chosen (Q : View → Type 0) (chosen : Choice) : Type 0 where
+  pub plain : chooses_view chosen ≡ false
+  pub word : Word Q (packet_chosen chosen)
 
 chosen_of : (Q : View → Type 0) (me : ℕ) (p : Option Packet) → Word Q p → Chosen Q (choice_of me p)
 chosen_of Q me None word = record { plain = refl; word = tt }
@@ -351,12 +351,12 @@ chosen_beside Q me None (choice.Whole entry) chosen = by_test (is_device entry)
 chosen_beside Q me None (choice.Open p) chosen = chosen
 chosen_beside Q me None (choice.Answer reply) chosen = chosen
 
-chosen_in : (Q : View → Type 0) (me : ℕ) (poller : Option Poller) (got : Received) → Word Q (packet_in got) → Chosen Q (choice_in me poller got)
+pub chosen_in : (Q : View → Type 0) (me : ℕ) (poller : Option Poller) (got : Received) → Word Q (packet_in got) → Chosen Q (choice_in me poller got)
 chosen_in Q me None got word = chosen_of Q me (packet_in got) word
 chosen_in Q me (Some poller) got word = chosen_beside Q me (reply_in got) (choice_of me (packet_in got)) (chosen_of Q me (packet_in got) word)
 
 -- at its tick it is no view either
-chosen_then : (Q : View → Type 0) (tick : ℕ) (poller : Option Poller) (chosen : Choice) → chooses_view chosen ≡ false → Word Q (packet_chosen chosen) → Chosen Q (answered_at tick poller chosen)
+pub chosen_then : (Q : View → Type 0) (tick : ℕ) (poller : Option Poller) (chosen : Choice) → chooses_view chosen ≡ false → Word Q (packet_chosen chosen) → Chosen Q (answered_at tick poller chosen)
 chosen_then Q tick poller (choice.Whole entry) plain word = record { plain = plain; word = tt }
 chosen_then Q tick poller (choice.Open p) plain word = record { plain = refl; word = word }
 chosen_then Q tick poller (choice.Answer reply) plain word = by_answer (option_and_then (answer_taken tick reply) poller)
@@ -388,7 +388,7 @@ done_no_view s (disk.WriteClose number) bytes = refl
 done_no_view s disk.WriteClear bytes = refl
 done_no_view s (disk.WriteReset rank) bytes = refl
 
-answer_no_view : (s : Settings) (op : DiskOp) (made : Call) → is_view (disk_answer s op made) ≡ false
+pub answer_no_view : (s : Settings) (op : DiskOp) (made : Call) → is_view (disk_answer s op made) ≡ false
 answer_no_view s op made = by_failed (is_failed made)
   where
     by_failed : (b : Bool) → is_view (if b then failed op else done s op (bytes_read made)) ≡ false

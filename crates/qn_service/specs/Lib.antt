@@ -2,9 +2,11 @@ pub mod Between
 pub mod Company
 pub mod Heard
 pub mod Holders
+pub mod KeptViews
 pub mod Leading
 pub mod Looks
 pub mod Loops
 pub mod NextLooks
 pub mod Serving
+pub mod Shown
 pub mod Unheard

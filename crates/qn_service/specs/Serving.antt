@@ -68,15 +68,13 @@ PacketsCome s image rank post from to old new =
     → clock_at s image at rank + post < clock_at s image new rank
     → IsHanded s image rank to packet (clock_at s image at rank + post) (happening ∷ at) new
 
--- The members of a view are a majority, and are so from an old joint to a new one: each is up and has that view, and the chosen one of them
--- keeps its pace and installs no other one. No fence delay is left at the old joint, and there the chosen one has claimed its incarnation
--- and has asked, and no Stop of a member is unanswered. The view gives away what no other member holds. Packets come, both ways.
-pub record HaveOneView (s : Settings) (t : Timing) (image : ℕ → List ℕ) (pace : Pace) (post rank : ℕ) (present : View) (old new : List Happening) : Type 0 where
+-- The members of a view are a majority. From an old joint to a new one the chosen one of them keeps its pace and installs no other view. No
+-- fence delay is left at the old joint, and there the chosen one has claimed its incarnation and has asked, and no Stop of a member is
+-- unanswered. The view gives away what no other member holds. Packets come, both ways.
+pub record MayServe (s : Settings) (t : Timing) (image : ℕ → List ℕ) (pace : Pace) (post rank : ℕ) (present : View) (old new : List Happening) : Type 0 where
   pub majority : IsMajority s present.members
   pub fast : pace.disk < t.loop_ms
   pub member : is_member present.members rank ≡ true
-  pub members : (other : ℕ) → is_member present.members other ≡ true
-      → (mid : List Happening) → Before old mid → Before mid new → HasView s image present other mid
   pub chosen : is_chosen s rank (log_after s image old rank) ≡ true
   pub paced : (mid : List Happening) → Before old mid → Before mid new
       → IsPaced s image pace (install (log_after s image old rank)) rank mid
@@ -91,6 +89,12 @@ pub record HaveOneView (s : Settings) (t : Timing) (image : ℕ → List ℕ) (p
       → PacketsCome s image rank post rank other old new
   pub tells_come : (other : ℕ) → is_member present.members other ≡ true → ¬ (other ≡ rank)
       → PacketsCome s image rank post other rank old new
+
+-- And each of them is up and has that view.
+pub record HaveOneView (s : Settings) (t : Timing) (image : ℕ → List ℕ) (pace : Pace) (post rank : ℕ) (present : View) (old new : List Happening) : Type 0 where
+  pub members : (other : ℕ) → is_member present.members other ≡ true
+      → (mid : List Happening) → Before old mid → Before mid new → HasView s image present other mid
+  pub serves : MayServe s t image pace post rank present old new
 
 -- By then the nodes outside the view are fenced, in the time of a take-over, and each other member was heard: it is asked within a loop and a
 -- turn, its answer comes after the ways of two packets, and two turns on the answers are taken in.

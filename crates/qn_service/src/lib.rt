@@ -17,6 +17,11 @@
 //! a running node keeps what it has of its view (`law_looks_follow`), so a company that it finds for a loop is its view
 //! (`law_companies_settle`). A majority whose nodes have one view has an owner within the time of a take-over, and at each joint after it
 //! (`law_members_serve`), as in a run that is given (`law_members_are_met`).
+//!
+//! The log of a running node shows the view that the last look of its view maker left (`law_logs_show_views`), also where that is the
+//! company of a leader (`law_companies_are_shown`); each look is one of a node that knows names (`law_looks_know_names`). While its looks
+//! keep a view, its log has it (`law_views_are_kept`), and so a majority whose looks agree on one has an owner (`law_looks_serve`), as in a
+//! run that is given (`law_looks_are_met`).
 #![tactic(auto)]
 
 mod laws;
@@ -33,4 +38,8 @@ pub use owners::{
     law_holders_run, law_looks_by_the_image, law_moments_are_of_joints, law_nobody_heard_is_reset,
     law_owner_is_well, law_owners_go_on,
 };
-pub use serving::{law_companies_settle, law_looks_follow, law_members_are_met, law_members_serve};
+pub use serving::{
+    law_companies_are_shown, law_companies_settle, law_logs_show_views, law_looks_are_met,
+    law_looks_follow, law_looks_know_names, law_looks_serve, law_members_are_met,
+    law_members_serve, law_views_are_kept,
+};
