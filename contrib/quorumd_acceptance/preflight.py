@@ -43,11 +43,14 @@ def why_not_up(status, count):
         told = json.loads(status)
         members = (told["view"] or {"members": []})["members"]
         is_up, is_quorate = told["phase"] == "up" and told["end"] is None, told["quorate"]
+        answer = told["arbiter"]["answer"] if "arbiter" in told else "yes"
     except (ValueError, KeyError, TypeError):
         return "its node has no status file"
     if not is_up:
         return "its node is %s" % (told["end"] or told["phase"])
-    return "" if is_quorate and len(members) == count else "its node sees %d of %d nodes" % (len(members), count)
+    if not is_quorate or len(members) != count:
+        return "its node sees %d of %d nodes" % (len(members), count)
+    return {"yes": "", "none": "its arbiter does not answer"}.get(answer, "its arbiter answers %s" % answer)
 
 
 def of_host(facts, count):
