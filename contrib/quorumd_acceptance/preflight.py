@@ -43,11 +43,14 @@ def why_not_up(status, count):
         told = json.loads(status)
         members = (told["view"] or {"members": []})["members"]
         is_up, is_quorate = told["phase"] == "up" and told["end"] is None, told["quorate"]
+        answer = told["arbiter"]["answer"] if "arbiter" in told else "yes"
     except (ValueError, KeyError, TypeError):
         return "its node has no status file"
     if not is_up:
         return "its node is %s" % (told["end"] or told["phase"])
-    return "" if is_quorate and len(members) == count else "its node sees %d of %d nodes" % (len(members), count)
+    if not is_quorate or len(members) != count:
+        return "its node sees %d of %d nodes" % (len(members), count)
+    return {"yes": "", "none": "its arbiter does not answer"}.get(answer, "its arbiter answers %s" % answer)
 
 
 def of_host(facts, count):
@@ -153,8 +156,10 @@ def of_machines(all_facts, own):
 def reds(all_facts, plan, own):
     """All that is red, in the order of the hosts. `all_facts` are those of the hosts of nodes, `own` is this machine."""
     said = [Red(facts.host, text) for facts in all_facts for text in of_host(facts, len(plan.hosts()))]
-    for key, what in (("key", "the key"), ("text:corosync.conf", "corosync.conf"), ("text:resources.conf", "resources.conf"), ("times", "the times of the image"), ("package", "the package"), ("program", "the program")):
+    may_hold = [facts for facts in all_facts if facts.host not in plan.witnesses()]
+    for key, what in (("key", "the key"), ("text:corosync.conf", "corosync.conf"), ("times", "the times of the image"), ("package", "the package"), ("program", "the program")):
         said += differing(all_facts, key, what)
+    said += differing(may_hold, "text:resources.conf", "resources.conf")
     said += of_members(all_facts, plan.hosts()) + of_machines(all_facts, own)
     order = plan.reached()
     return sorted(dict.fromkeys(said), key=lambda red: order.index(red.host))

@@ -6,8 +6,12 @@
 
 # acceptance_bed: PostgreSQL runs on host 1 and takes rows, and a plan of all that is at $room/plan
 acceptance_bed() {
-    database_on_store "$UNIT" || return 1
-    FIRMWARE=25 begun || return 1
+    database_on_store "$UNIT" && FIRMWARE=25 begun && acceptance_plan
+}
+
+# acceptance_plan [HOST..]: a plan of these hosts, or of all three, at $room/plan
+acceptance_plan() {
+    [ $# -gt 0 ] || set -- host1 host2 host3
     until_true 40 sql 'create table rows (number bigint primary key)' || return 1
     cat > "$room/reach" << END
 #!/bin/bash
@@ -23,7 +27,7 @@ END
     chmod 755 "$room/reach" "$room/pull"
     cat > "$room/plan" << END
 reach = $room/reach {host}
-hosts = host1 host2 host3
+hosts = $*
 sign.address = ip -o address show | grep -q ' 192\.0\.2\.100/'
 sign.store = grep -q ' /var/lib/postgresql ' /proc/mounts
 sign.postgres = pgrep -u postgres -f '[b]in/postgres -D'
@@ -75,17 +79,36 @@ told() {
     done
 }
 
-# Each test that fits containers passes.
-scene_acceptance() {
+# accepted: each test that fits containers passes
+accepted() {
     local status tests=${ACCEPTANCE_TESTS-}
     [ -z "${QUORUMD_TEST_LIAR-}" ] || tests=$(test_of_liar "$QUORUMD_TEST_LIAR")
-    acceptance_bed || return 1
     # shellcheck disable=SC2086
     "$here/../../contrib/quorumd-acceptance" --yes watchdog,hang,kill,panic,reboot,disk,plug,cable,off "$room/plan" $tests | told
     status=${PIPESTATUS[0]}
     cat "$room/page.md"
     # panic, disk, server and arbiter have nothing here to be played on
     [ "$status" = 0 ] || { [ "$status" = 77 ] && ! grep -q '| not judged |' "$room/page.md"; }
+}
+
+scene_acceptance() { acceptance_bed && accepted; }
+
+# Three hosts of which one is a witness, as docs/MACHINES.md has it.
+scene_acceptance_witness() {
+    text_of '' 1 2 3 | sed '/nodeid: 3$/a \  standby: yes' | in_text && database_on_store "$UNIT" || return 1
+    rm "$room/host3/etc/quorumd/resources.conf"
+    echo 'AGENT=none' > "$room/host3/etc/quorumd/agent.env"
+    FIRMWARE=25 begun && acceptance_plan || return 1
+    echo 'witness = host3' >> "$room/plan"
+    accepted
+}
+
+# Two hosts and their arbiter, which runs on host 3.
+scene_acceptance_arbiter() {
+    with_arbiter && database_on_store "$UNIT" || return 1
+    FIRMWARE=25 power 1 && FIRMWARE=25 power 2 && until_true 60 owns 1 && until_true 40 has_answer && acceptance_plan host1 host2 || return 1
+    echo 'arbiter = host3' >> "$room/plan"
+    accepted
 }
 
 # A block server that is killed ends nothing, and one that is gone ends the owner alone.

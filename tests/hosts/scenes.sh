@@ -1,7 +1,7 @@
 # The scenes. Each is a function that fails where something else came than should. Sourced by `containers`.
 all_scenes='clean_stop exit_message off_message reboot_of_holder poweroff_of_holder kill_node looks hang_node cable_cut deaf_holder no_image other_image slow_stop reset_in_leave stuck_stop
 by_hand supervisor_dies supervisor_hangs reexecuted reloaded slow_start quorum_back quorum_lost all_off all_rebooted late_disk late_network isolated run_full journal_hangs moves stop_while_starting edited start_mode resource_dies start_fails maintenance planned_handover third_handover turns_used renewed three_images confined
-postgres pgsql system_upgraded database_upgraded upgrade purge pages setup setup_by_names page_device page_servers page_etcd acceptance acceptance_servers acceptance_red arbiter arbiter_by_name arbiter_removed
+postgres pgsql system_upgraded database_upgraded upgrade purge pages setup setup_by_names page_device page_servers page_etcd acceptance acceptance_witness acceptance_arbiter acceptance_servers acceptance_red arbiter arbiter_by_name arbiter_removed
 moves_by_name standby unfit all_standby witness two_node device device_cut last_man named one_network both_networks network_added late_second_network'
 
 # begun [HOST]: the cluster is up and this host holds

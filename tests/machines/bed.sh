@@ -8,6 +8,7 @@ TIMES=${QUORUMD_TEST_TIMES:-8000,16000,1500,3000,1000}
 WATCHDOG=$((${TIMES%%,*} / 1000))
 # KVM where the processor has it. Some clouds have a /dev/kvm that boots only kernels made for it: there QEMU translates
 ACCEL=${QUORUMD_TEST_ACCEL:-$(if [ -w /dev/kvm ] && grep -qwE 'vmx|svm' /proc/cpuinfo; then echo kvm; else echo tcg,tb-size=64; fi)}
+FILE_MODULES='crc16 crc32c_generic mbcache jbd2 ext4' # of machines with a database
 MODULES='watchdog virtio_ring virtio virtio_pci_legacy_dev virtio_pci_modern_dev virtio_pci failover net_failover virtio_net virtio_blk i6300esb'
 
 # the commands of the block servers and the options of the watchdog are those of the page for operators
@@ -20,7 +21,7 @@ server_words() { block "file /etc/systemd/system/$1" | sed -n 's|^ExecStart=/usr
 
 # make_kernel: Debian's kernel and the drivers that the machines need; kept for the next run
 make_kernel() {
-    [ -e "$cache/complete" ] && return
+    [ -e "$cache/complete" ] && [ -n "$(find "$cache/tree" -name ext4.ko)" ] && return
     local name
     rm -rf "$cache"
     mkdir -p "$cache/tree"
@@ -28,7 +29,9 @@ make_kernel() {
     (cd "$cache" && apt-get download -o APT::Sandbox::User=root "$name" > log 2>&1) &&
         dpkg-deb --fsys-tarfile "$cache"/*.deb | tar x -C "$cache/tree" --wildcards './boot/vmlinuz-*' './lib/modules/*/kernel/drivers/virtio/*' \
             './lib/modules/*/kernel/drivers/block/virtio_blk.ko' './lib/modules/*/kernel/drivers/net/virtio_net.ko' \
-            './lib/modules/*/kernel/drivers/net/net_failover.ko' './lib/modules/*/kernel/net/core/failover.ko' './lib/modules/*/kernel/drivers/watchdog/*' &&
+            './lib/modules/*/kernel/drivers/net/net_failover.ko' './lib/modules/*/kernel/net/core/failover.ko' './lib/modules/*/kernel/drivers/watchdog/*' \
+            './lib/modules/*/kernel/fs/ext4/*' './lib/modules/*/kernel/fs/jbd2/*' './lib/modules/*/kernel/fs/mbcache.ko' './lib/modules/*/kernel/lib/crc16.ko' \
+            './lib/modules/*/kernel/crypto/crc32c_generic.ko' &&
         unpack_kernel "$cache"/tree/boot/vmlinuz-* "$cache/vmlinux" && rm "$cache"/*.deb && touch "$cache/complete" && return
     echo "machines: no kernel: $cache/log" >&2
     exit 1
@@ -44,7 +47,7 @@ unpack_kernel() {
     return 1
 }
 
-# make_python: what the machines of an arbiter have besides: Python, with the supervisor of the resources and what its group runs
+# make_python: what machines with a supervisor have besides: Python, the supervisor, and the agents of what its group runs
 make_python() {
     local root=$room/python name
     [ ! -e "$root" ] || return 0
@@ -56,11 +59,11 @@ make_python() {
         case $name in */ld-linux*) ;; *) cp -L "$name" "$root/lib/" ;; esac
     done
     printf '#!/bin/sh\nexit 0\n' > "$root/bin/systemctl"
-    printf '[file]\nagent = ocf:t:File\n' > "$root/q/resources"
+    printf '[file]\nagent = ocf:t:File\n' > "$root/q/resources.supervised"
+    printf '[%s]\nagent = ocf:t:%s\nmonitor-interval = 2\n' address Address store Store database Database > "$root/q/resources.database"
     echo AGENT=group > "$root/q/agent.env"
-    printf '#!/bin/sh\ncase $1 in\nstart) echo held > /run/resource ;;\nstop) echo free > /run/resource ;;\nmonitor) grep -q held /run/resource || exit 7 ;;\nesac\n' \
-        > "$root/q/ocf/resource.d/t/File"
-    chmod 755 "$root/bin/systemctl" "$root/q/ocf/resource.d/t/File" "$root/q/held"
+    cp "$here"/ocf/* "$root/q/ocf/resource.d/t/"
+    chmod 755 "$root/bin/systemctl" "$root"/q/ocf/resource.d/t/* "$root/q/held"
 }
 
 # make_root: what a machine boots on: busybox, the drivers, the program, a block server and a relay
@@ -72,7 +75,8 @@ make_root() {
     echo "$MODULES" > "$root/modules"
     server_words quorumd-disk.service | sed 's|/run/quorumd-disk/socket|/run/disk.sock|; s|/dev/mapper/quorumd|/dev/vda|' > "$root/server" &&
         block 'file /etc/modprobe.d/quorumd.conf' | sed -n 's/^options i6300esb //p' > "$root/watchdog" && [ -s "$root/server" ] && [ -s "$root/watchdog" ] || exit 1
-    for name in $MODULES; do
+    echo "$FILE_MODULES" > "$root/file_modules"
+    for name in $MODULES $FILE_MODULES; do
         cp "$(find "$cache/tree" -name "$name.ko" | head -n 1)" "$root/mod/" || exit 1
     done
     for name in $(ldd "$root/bin/quorumd" "$root/bin/qemu-nbd" "$root/bin/socat" | grep -o '/[^ ]*' | grep -v ':$' | sort -u); do
@@ -94,7 +98,7 @@ fault() {
 }
 
 # set_up WAY: three machines that are off, their network, and a disk made in that way: nbd, three, etcd. With ARBITER the third one is the arbiter of the
-# two others, and with ARBITER=2 there is a fourth one with the same address
+# two others, and with ARBITER=2 there is a fourth one with the same address. With DATABASE the resource is PostgreSQL: database.sh
 set_up() {
     way=$1
     numbers=(1 2 3)
@@ -104,6 +108,7 @@ set_up() {
     make_settings
     make_network
     "disk_$way" || { echo "no disk: $way"; return 1; }
+    [ -z "${DATABASE-}" ] || data_disk || { echo 'no data'; return 1; }
     pack_root
     local number
     for number in "${numbers[@]}"; do
@@ -220,12 +225,13 @@ pack_root() {
     cp "$room/conf" "$room/key" "$room/root/"
     chmod 400 "$room/root/key"
     (cd "$room/root" && find . | busybox cpio -o -H newc 2> /dev/null) > "$room/initrd"
-    [ -z "${ARBITER-}" ] || { make_python && (cd "$room/python" && find . | busybox cpio -o -H newc 2> /dev/null) >> "$room/initrd"; }
+    [ -z "${ARBITER-}${DATABASE-}" ] || { make_python && (cd "$room/python" && find . | busybox cpio -o -H newc 2> /dev/null) >> "$room/initrd"; }
 }
 
 # qemu_words NUMBER START: the words of QEMU for that machine, one a line. Its node starts at once where START is 1, else when it is told
 qemu_words() {
     local number=$1 port sectors=512 seconds=$WATCHDOG address=$1 role=node
+    [ -z "${DATABASE-}" ] || role=database
     [ -z "${ARBITER-}" ] || role=supervised
     [ -z "${ARBITER-}" ] || [ "$number" -lt 3 ] || { address=3; role=arbiter; }
     [ -z "${STRIDE-}${LONG-}" ] || sectors=4096
@@ -241,6 +247,7 @@ qemu_words() {
     printf '%s\n' -qmp "unix:$room/qmp.$number"
     [ "$way" != nbd ] || [ "$role" = arbiter ] || printf '%s\n' -drive "if=none,id=shared,file=$room/disk,format=raw,cache=none,file.locking=off" \
         -device "virtio-blk-pci,id=disk,drive=shared,share-rw=on,logical_block_size=$sectors,physical_block_size=$sectors"
+    [ "$role" != database ] || data_words
 }
 
 # tell COMMAND..: a command for the hypervisor
@@ -290,12 +297,13 @@ take_down() {
     local pid
     [ -z "${hypervisor-}" ] || { tell end; exec 7>&- 6>&-; wait "$hypervisor" 2> /dev/null; }
     hypervisor=
+    rm -f "$room/loaded"
     for pid in "${servers[@]-}"; do
         [ -z "$pid" ] || kill -KILL "$pid" 2> /dev/null
     done
     servers=()
     ip netns delete "$tag" 2> /dev/null
-    rm -rf "$room"/qemu.? "$room"/console.? "$room"/orders.? "$room"/signs.? "$room"/qmp.? "$room/commands" "$room/passing" "$room/saved" "$room"/disk* "$room"/member.?
+    rm -rf "$room"/qemu.? "$room"/console.? "$room"/orders.? "$room"/signs.? "$room"/qmp.? "$room/commands" "$room/passing" "$room/saved" "$room"/disk* "$room"/member.? "$room/data" "$room/data-root"
     return 0
 }
 

@@ -36,6 +36,9 @@ ROWS = [
     ({"status": [STATUS.replace("[1,2,3]", "[1,2]")]}, "its node sees 2 of 3 nodes"),
     ({"status": [STATUS.replace('"up"', '"leaving"')]}, "its node is leaving"),
     ({"status": [""]}, "its node has no status file"),
+    ({"status": [STATUS.replace('"end"', '"arbiter":{"answer":"yes"},"end"')]}, ""),
+    ({"status": [STATUS.replace('"end"', '"arbiter":{"answer":"no"},"end"')]}, "its arbiter answers no"),
+    ({"status": [STATUS.replace('"end"', '"arbiter":{"answer":"none"},"end"')]}, "its arbiter does not answer"),
     ({"key": ["other"]}, "the key: not that of db1"),
     ({"key": []}, "the key: none is there"),
     ({"text:corosync.conf": ["other"]}, "corosync.conf: not that of db1"),
@@ -95,6 +98,10 @@ def main():
     facts = [preflight.facts_of("db%d" % number, probe(number, status=[STATUS.replace("[1,2,3]", "[1,2]")])) for number in (1, 2)]
     two = ["%s: %s" % red for red in preflight.reds(facts, plan.plan_of("plan", "hosts = db1 db2\nsign.a = true\n"), "own")]
     said += [str(two)] if two != ["db1: its text has node 3, and no host of the plan runs that"] else []
+    # a witness starts no resource, so its file of them is of no matter
+    for text in ["other"], []:
+        of_witness = reds(TEXT + "witness = db2\n", {"text:resources.conf": text})
+        said += ["of a witness: %s" % of_witness] if of_witness else []
     cut = preflight.facts_of("db1", "user 0\n")
     said += [cut.why] if cut.why != "the probe came to no end" else []
     if said:

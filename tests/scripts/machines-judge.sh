@@ -86,9 +86,15 @@ bounded 0 slewed 1 "$(scene - 15.9)" ''
 bounded 1 slewed 1 "$(scene - 14.6)" 'OUT OF BOUNDS: another machine held after 14.60 s, and 15.84 is the least'
 bounded 0 wrong_watchdog 1 "$(scene 3 6)" ''
 bounded 1 hang 1 '90.000 1 sign 1 1\n' 'OUT OF BOUNDS: the scene has no fault'
+# with --first the fault is one of another machine
+printf '90.000 2 sign 1 1\n100.000 scene fault it is killed\n106.000 2 sign 1 2\n107.000 2 reset\n122.000 1 sign 1 1\n' > events
+"$TOP/tests/machines/judge" --scene hang --times 8000,16000,1500,3000,1000 --first 2 events > said
+status=0
+"$TOP/tests/machines/judge" --scene hang --times 8000,16000,1500,3000,1000 events > said || status=$?
+same "$status $(grep -c '^OUT OF BOUNDS' said)" '1 3'
 
 # each scene has its line of bounds, or is one that begins no machine, or loses others than machine 1, or is judged by `quorums`
-(. "$TOP/tests/machines/scenes.sh" && . "$TOP/tests/machines/arbiter.sh" && printf '%s\n' "${all_scenes[@]}") | sort > scenes
+(. "$TOP/tests/machines/scenes.sh" && . "$TOP/tests/machines/arbiter.sh" && . "$TOP/tests/machines/database.sh" && printf '%s\n' "${all_scenes[@]}") | sort > scenes
 grep -v '^#' "$TOP/tests/machines/bounds" | cut -f 1 | sort > bounded
 same "$(comm -13 scenes bounded)" ''
 same "$(comm -23 scenes bounded | grep -v '^arbiter_' | paste -sd ' ')" 'leader_killed long_sectors_unsaid two_servers_of_three wrong_watchdog'
