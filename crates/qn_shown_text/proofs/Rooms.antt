@@ -1,7 +1,8 @@
 -- The room of a status file is enough: how many bytes each part of it has at most.
-use Rattle.std.proofs.Common.{◌≡◌, ◌≤◌, ◌<◌, ℕ, ◌+◌, ◌*◌, ◌/◌, ◌%◌, ◌^◌, Bool, List, [], ◌∷◌, ◌++◌, Option, None, Some, length, option_map, codes, decimal, refl, sym, ap, ◌∙◌, arith, lit<}
+use Rattle.std.proofs.Common.{◌≡◌, ◌≤◌, ◌<◌, ℕ, ◌+◌, ◌*◌, ◌/◌, ◌%◌, ◌^◌, Bool, false, List, [], ◌∷◌, ◌++◌, Option, None, Some, length, option_map, codes, decimal, refl, sym, ap, ◌∙◌, arith, lit<}
 use Rattle.std.proofs.lemmas.Fmt.{length-decimal-le}
 use Rattle.std.proofs.lemmas.Grind.{common_steps}
+use Rattle.std.proofs.lemmas.List.{length-append}
 use Rattle.json.specs.Json.{Json, null, boolean, number, string, array, object}
 use Rattle.json.specs.Print.{escape_byte, print_from}
 use Rattle.json.specs.Tree.{json_tokens}
@@ -172,7 +173,9 @@ peer_object peer fits plain = object_cost (peer_entries peer) 383 (peer_cost pee
 candidate_cost : (c : Candidate) → CandidateFits c → value_cost (candidate_json c) ≤ 11
 candidate_cost candidate.Unsaid fits = omega arith
 candidate_cost candidate.Unnamed fits = omega arith
-candidate_cost candidate.Nobody fits = omega arith
+candidate_cost candidate.Nobody fits =
+    let digits : length (decimal 0) ≤ 10 = length-decimal-le 10 0 (lit< tt) (omega arith) (omega arith) in
+    omega (arith, digits)
 candidate_cost (candidate.Named id) fits = id_cost id fits
 
 view_cost : (view : ShownView) → ViewFits view → entries_cost (view_entries view) ≤ 418
@@ -242,9 +245,11 @@ shown_cost s usual =
     let c1 = both (entry_any (codes "arbiter") (option_map arbiter_json s.arbiter) 442 (any_cost arbiter_json 442 s.arbiter (on_two (λ a fits plain. object_cost (arbiter_entries a) 438 (arbiter_cost a fits plain)) s.arbiter f.arbiter p.arbiter))) c2 in
     c1
 
--- the whole text, with the end of its line
+-- a text with the end of its line
+line_fits : (text : List ℕ) (most : ℕ) → length text ≤ most → most ≤ 14260 → length (text ++ codes "\n") ≤ 14336
+line_fits text most short within = let line = length-append text (codes "\n") in omega (arith, line, short, within)
+
 pub usual_fits : (s : Shown) → IsUsual s → length (status_text s) ≤ 14336
 usual_fits s usual =
-    let object = object_cost (shown_entries s) 14256 (shown_cost s usual) in
-    let text = print_cost false (json_tokens (shown_json s)) in
-    grind (arith, common_steps, object, text)
+    line_fits (shown_text s) (json_cost (shown_json s)) (print_cost false (json_tokens (shown_json s)))
+    (object_cost (shown_entries s) 14256 (shown_cost s usual))
