@@ -112,7 +112,7 @@ def has_open(node, image):
 
 
 def opens_later():
-    """An image that is not there, or empty, is tried again each loop, and opened once it has the header of the others."""
+    """An image that is not there, or empty, is tried again each loop, and opened once it has the header of the others: from then on it counts."""
     for name, way in ("later-folder", in_place_of_a_folder), ("later-empty", emptied):
         cluster = ShownCluster(name, ids=(1,))
         late, whole = cluster.images[0], cluster.images[0].read_bytes()
@@ -127,6 +127,9 @@ def opens_later():
         same("an empty one is open", has_open(node, late), False)
         late.write_bytes(whole)
         wait_for("it is opened", lambda: has_open(node, late))
+        wait_for("it tells that it is back", lambda: news(node) == [("image-lost", "1"), ("image-back", "1")])
+        wait_for("its status file says so", lambda: cluster.images_of() == 3)
+        same("the verdict", cluster.verdict(), (0, "quorumd healthy: 1 holds (no group)"))
         is_fed(cluster)
         cluster.message(1, "exit", images=cluster.images[1:])
         same("answer", node.end(), (0, "left clean\n"))

@@ -13,7 +13,7 @@ use std::io::{self, ErrorKind};
 pub fn ask_agent<L: Line + Drop>(order: Order, line: L) -> io::Result<(Spent<L>, Obeyed)>
     ensures sent { IfOk result (λ r. Appends (L.written line) (L.written r.0.line) (agent_line order)) }
     ensures answered { IfOk result (λ r. Consumes (L.unread line) (L.unread r.0.line) (codes "ok\n")) }
-    ensures obeyed { IfOk result (λ r. r.1.order ≡ order) }
+    ensures obeyed { IfOk result (λ r. r.1 ≡ order) }
 {
     let mut line = line;
     ask_over(order, &mut line)?;

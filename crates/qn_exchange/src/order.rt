@@ -6,6 +6,7 @@ ghost use Rattle.qn_exchange.specs.Writes.{SendsFront};
 
 use crate::again::write_whole;
 use std::io::{self, Write};
+use std::marker::Model;
 
 /// What a resource is told to do.
 #[derive(Clone, Copy, PartialEq, Eq)]
@@ -39,11 +40,18 @@ impl Order {
     }
 }
 
-/// That an order was obeyed. Nothing but the exchange with an agent and the write to a file makes one.
+/// That an order was obeyed: a contract sees it as that order. Nothing but the exchange with an agent and the write to a file makes one.
 #[derive(Drop)]
 pub struct Obeyed {
-    pub order: Order,
-    _made: (),
+    order: Order,
+}
+
+impl Model for Obeyed {
+    ghost use Rattle.qn_exchange.specs.declared.order.Order.{Order};
+
+    ghost Value = { Order };
+
+    ghost view = { λ obeyed. obeyed.order };
 }
 
 impl Obeyed {
@@ -51,9 +59,9 @@ impl Obeyed {
 
     /// Of that order.
     pub(crate) fn of(order: Order) -> Obeyed
-        ensures { result.order ≡ order }
+        ensures { result ≡ order }
     {
-        Obeyed { order, _made: () }
+        Obeyed { order }
     }
 }
 
@@ -62,7 +70,7 @@ pub fn put_order<W: Write>(order: Order, writer: &mut W) -> io::Result<Obeyed>
     ensures put { OnOk result (Appends (W.contents writer.old) (W.contents writer.new) (file_word order)) }
     ensures unput { OnErr result
         (SendsFront (W.contents writer.old) (W.contents writer.new) (file_word order)) }
-    ensures obeyed { IfOk result (λ obeyed. obeyed.order ≡ order) }
+    ensures obeyed { IfOk result (λ obeyed. obeyed ≡ order) }
 {
     write_whole(writer, order.file_word())?;
     Ok(Obeyed::of(order))

@@ -242,8 +242,12 @@ impl<'a, R: Files<File = File> + Clock + Eprint> Journal<'a, R> {
         }
     }
 
-    /// Tells of one of three images that it is lost, or is back.
+    /// Tells of one of three images that it is lost, or is back. One that was opened late counts from then on: its header was read.
     fn tell_image(&mut self) {
+        if let Some(place) = self.lines.voices().take_opened() {
+            self.images.call(u32::from(place) * IMAGE, true);
+            self.images.header(usize::from(place), true);
+        }
         if let Some(news) = self.images.news() {
             let at = self.now();
             let line = if news.is_lost {

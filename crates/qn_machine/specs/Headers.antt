@@ -2,7 +2,7 @@
 use Rattle.std.specs.Prelude.{ℕ, ◌==◌, nat_lt, Option, Some, None, Result, Ok, Err, if◌then◌else◌}
 use Rattle.qn_model.specs.declared.times.Timing.{Timing}
 use Rattle.qn_model.specs.Timing.{is_safe}
-use Rattle.qn_machine.specs.declared.headers.EdgeTimes.{EdgeTimes}
+use Rattle.qn_outside.specs.declared.times.Times.{Times}
 use Rattle.qn_machine.specs.declared.headers.HeaderFault.{HeaderFault}
 use Rattle.qn_machine.specs.declared.headers.HeaderFault.TheVariants as fault
 
@@ -18,14 +18,14 @@ abbrev pub header_fault : Option ℕ → ℕ → Timing → Option HeaderFault
 header_fault None nodes timing = times_fault timing
 header_fault (Some text) nodes timing = if text == nodes then times_fault timing else Some (fault.OtherNodes nodes text)
 
-abbrev pub edge_times : Timing → EdgeTimes
-edge_times timing = record { watchdog = timing.watchdog; feed_delay = timing.feed_delay }
+abbrev pub header_times : Timing → Times
+header_times timing = record { watchdog = timing.watchdog; feed_delay = timing.feed_delay }
 
-abbrev pub times_unless : Option HeaderFault → EdgeTimes → Result EdgeTimes HeaderFault
+abbrev pub times_unless : Option HeaderFault → Times → Result Times HeaderFault
 times_unless None times = Ok times
 times_unless (Some why) times = Err why
 
 -- the times that the header says, or why they are not taken
-abbrev pub times_of : Option ℕ → Option (ℕ × Timing) → Result EdgeTimes HeaderFault
+abbrev pub times_of : Option ℕ → Option (ℕ × Timing) → Result Times HeaderFault
 times_of text None = Err fault.NoHeader
-times_of text (Some header) = times_unless (header_fault text header.0 header.1) (edge_times header.1)
+times_of text (Some header) = times_unless (header_fault text header.0 header.1) (header_times header.1)

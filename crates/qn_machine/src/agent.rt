@@ -39,7 +39,7 @@ impl Agent {
     /// Sends it the line of the order on a connection of its own and waits for the answer. It is done only where the answer
     /// is the line `ok` and comes within 20 seconds.
     pub(crate) fn ask<R: Net + Clock>(&self, rt: &R, order: Order) -> io::Result<Obeyed>
-        ensures { IfOk result (λ obeyed. obeyed.order ≡ order) }
+        ensures { IfOk result (λ obeyed. obeyed ≡ order) }
     {
         let end = Deadline::after(rt, LIMIT)?;
         let stream = UnixStream::connect(rt, self.path.as_str())?;

@@ -1,33 +1,22 @@
 //! The disk of a node: one image, or three of which one may be lost.
-ghost use Rattle.std.specs.Prelude.{◌<◌, ◌≡◌, ◌↔◌, IsTrue, Some};
+ghost use Rattle.std.specs.Prelude.{◌<◌, ◌≡◌, ◌↔◌, IsTrue, Some, is_ok};
 
 use crate::blank::{found_at, is_zeros};
 use crate::edge::{Edge, Overwrites};
-use crate::headers::{EdgeTimes, times_of};
+use crate::headers::{header_times, times_of};
 use crate::image::{Image, Opener};
 use crate::named_file::Absent;
 use crate::reported::reported;
 use qn_base::Failed;
 use qn_exchange::ShortFeedDelay;
 use qn_io::SECTOR;
+use qn_outside::{Layout, Times};
 use qn_sector::get_header;
 use std::fs::File;
 use std::io::{self, ErrorKind};
 use std::net::{Net, TcpStream};
 use std::rt::Files;
 use std::time::{Clock, Duration};
-
-/// How many sectors each of three images has.
-const IMAGE_SECTORS: u32 = 1024;
-
-/// How the sectors stand on the images.
-#[derive(Clone, Copy, PartialEq, Eq)]
-enum Layout {
-    /// All on the first one.
-    One,
-    /// 1024 on each of three, in their order.
-    Three,
-}
 
 /// The images of a node that are open, each under its own lock.
 #[derive(Drop)]
@@ -70,8 +59,8 @@ struct Told {
 }
 
 impl Disk {
-    ghost use Rattle.std.specs.Prelude.{◌≡◌, ◌<◌};
-    ghost use Rattle.qn_machine.specs.Places.{image_of, is_written, sector_there};
+    ghost use Rattle.std.specs.Prelude.{◌≡◌, ◌<◌, IfSome, is_ok, slice_set};
+    ghost use Rattle.qn_outside.specs.Layouts.{image_of, is_written};
 
     /// A disk of which no image is open.
     pub(crate) fn closed() -> Disk {
@@ -132,33 +121,20 @@ impl Disk {
         rt: &R,
         errors: &E,
         edge: &Edge,
-    ) -> Result<EdgeTimes, Failed> {
-        let wanted = match self.layout {
-            Layout::One => 1,
-            Layout::Three => 2,
-        };
-        let mut found: u32 = 0;
-        let mut least = EdgeTimes::longest();
+    ) -> Result<Times, Failed> {
+        let mut said = [None; 3];
         let mut header = None;
-        'images: for image in &mut self.images {
-            match header_times(rt, errors, edge, image, &mut header) {
-                Some(times) => {
-                    found = found.saturating_add(1);
-                    least = least.least(times);
-                }
-                None if edge.absent() == Absent::Refused => *image = None,
-                None => {}
+        'images: for index in 0..3 {
+            said[index] = read_times(rt, errors, edge, &mut self.images[index], &mut header);
+            if said[index].is_none() && edge.absent() == Absent::Refused {
+                self.images[index] = None;
             }
         }
         self.header = header;
-        if found < wanted {
-            Err(Failed)
-        } else {
-            Ok(least)
-        }
+        self.layout.times(said).ok_or(Failed)
     }
 
-    /// Reads a sector; what lies past the end of a file reads as zeros.
+    /// Reads a sector; what lies past the end of a file reads as zeros. The header of the image is looked at before the next call after one that failed.
     pub(crate) fn read<R: Files<File = File> + Net<Stream = TcpStream> + Clock, E: Eprint>(
         &mut self,
         rt: &R,
@@ -167,8 +143,9 @@ impl Disk {
         into: &mut [u8; SECTOR],
     ) -> Result<(), Failed>
         requires { sector < 3072 }
+        ensures kept { (self.new.layout ≡ self.old.layout) × (self.new.wrote ≡ self.old.wrote) }
     {
-        let (index, sector) = self.place(sector);
+        let (index, sector) = self.layout.place(sector);
         self.look_again(rt, errors, index)?;
         let image = self.images[index].as_mut().ok_or(Failed)?;
         let done = image.read(rt, sector, into);
@@ -184,8 +161,10 @@ impl Disk {
         index: usize,
     ) -> Result<(), Failed>
         requires { index < 3 }
+        ensures layout { self.new.layout ≡ self.old.layout }
+        ensures kept { (self.new.wrote ≡ self.old.wrote) × (self.new.doubted ≡ self.old.doubted) }
     {
-        if self.layout == Layout::One || !self.doubted[index] {
+        if !self.layout.is_looked_at(self.doubted[index]) {
             return Ok(());
         }
         let image = self.images[index].as_mut().ok_or(Failed)?;
@@ -193,18 +172,22 @@ impl Disk {
         tell(rt, errors, image.name(), &mut self.told[index], done)
     }
 
-    /// Tries again to open those of three images that are not open, and have the header of the cluster.
+    /// Tries again to open the one of three images that is not open and has the header of the cluster, and gives its place where it was opened.
     pub(crate) fn open_again<
         R: Files<File = File> + Net<Stream = TcpStream> + Clock + AllocGlobal,
         E: Eprint,
-    >(&mut self, rt: &R, errors: &E) {
-        let Some(mut again) = self.again.take() else {
-            return;
+    >(&mut self, rt: &R, errors: &E) -> Option<u8>
+        ensures few { IfSome result (λ place. place < 3) }
+        ensures kept { (self.new.layout ≡ self.old.layout) × (self.new.wrote ≡ self.old.wrote) }
+    {
+        let mut again = self.again.take()?;
+        let place = if opened(&self.images) < 3 {
+            self.try_again(rt, errors, &mut again)
+        } else {
+            None
         };
-        if opened(&self.images) < 3 {
-            self.try_again(rt, errors, &mut again);
-        }
         self.again = Some(again);
+        place
     }
 
     /// The same, where the moment has come, and sets the next one.
@@ -213,24 +196,59 @@ impl Disk {
         rt: &R,
         errors: &E,
         again: &mut Again,
-    ) {
-        let Ok(began) = rt.monotonic() else {
-            return;
-        };
+    ) -> Option<u8>
+        ensures few { IfSome result (λ place. place < 3) }
+        ensures kept { (self.new.layout ≡ self.old.layout) × (self.new.wrote ≡ self.old.wrote) }
+    {
+        let began = rt.monotonic().ok()?;
         if began < again.from {
-            return;
+            return None;
         }
-        if let Ok((first, second, third)) = three_paths(again.word.as_str()) {
-            'images: for (index, word) in [first, second, third].iter().enumerate() {
-                if self.images[index].is_none() {
-                    let found = open_as(rt, errors, word, again.opener, &self.header);
-                    self.images[index] = kept(rt, errors, word, &mut self.told[index], found);
-                }
-            }
-        }
+        let place = self.open_missing(rt, errors, again);
         let now = rt.monotonic().unwrap_or(began);
         let took = now.saturating_sub(began);
         again.from = now.saturating_add(took.saturating_mul(TRY_SHARE));
+        place
+    }
+
+    /// Opens those of three images that are not open and have the header of the cluster, and gives the place of the last one that was opened.
+    fn open_missing<
+        R: Files<File = File> + Net<Stream = TcpStream> + Clock + AllocGlobal,
+        E: Eprint,
+    >(&mut self, rt: &R, errors: &E, again: &Again) -> Option<u8>
+        ensures few { IfSome result (λ place. place < 3) }
+        ensures kept { (self.new.layout ≡ self.old.layout) × (self.new.wrote ≡ self.old.wrote) }
+    {
+        let (first, second, third) = three_paths(again.word.as_str()).ok()?;
+        let has_first = self.open_at(rt, errors, again.opener, 0, first);
+        let has_second = self.open_at(rt, errors, again.opener, 1, second);
+        let has_third = self.open_at(rt, errors, again.opener, 2, third);
+        match (has_first, has_second, has_third) {
+            (_, _, true) => Some(2),
+            (_, true, false) => Some(1),
+            (true, false, false) => Some(0),
+            (false, false, false) => None,
+        }
+    }
+
+    /// Opens the image at that place by that word, where it is not open, and gives whether it was opened: it has the header of the cluster.
+    fn open_at<R: Files<File = File> + Net<Stream = TcpStream> + Clock + AllocGlobal, E: Eprint>(
+        &mut self,
+        rt: &R,
+        errors: &E,
+        opener: Opener,
+        index: usize,
+        word: &str,
+    ) -> bool
+        requires { index < 3 }
+        ensures kept { (self.new.layout ≡ self.old.layout) × (self.new.wrote ≡ self.old.wrote) }
+    {
+        if self.images[index].is_some() {
+            return false;
+        }
+        let found = open_as(rt, errors, word, opener, &self.header);
+        self.images[index] = kept(rt, errors, word, &mut self.told[index], found);
+        self.images[index].is_some()
     }
 
     /// Writes a sector and has it pushed to the disk. Sector 0 of an image is written only under the exclusive lock, which is
@@ -245,17 +263,37 @@ impl Disk {
         overwrites: Overwrites,
     ) -> Result<(), Failed>
         requires { sector < 3072 }
+        ensures wrote { self.new.wrote
+            ≡ slice_set self.old.wrote (image_of self.old.layout sector) (is_ok result) }
+        ensures layout { self.new.layout ≡ self.old.layout }
     {
-        let (index, sector) = self.place(sector);
+        let (index, sector) = self.layout.place(sector);
         if sector == 0 {
             let open = self.images[index].take();
             self.images[index] = open.and_then(|image| locked(rt, errors, image, from, overwrites));
         }
-        self.wrote[index] = false;
+        let done = self.write_at(rt, errors, index, sector, from);
+        self.wrote[index] = done.is_ok();
+        done
+    }
+
+    /// Writes a sector of the image at that place, where that is open.
+    fn write_at<R: Files<File = File> + Net<Stream = TcpStream> + Clock, E: Eprint>(
+        &mut self,
+        rt: &R,
+        errors: &E,
+        index: usize,
+        sector: u32,
+        from: &[u8; SECTOR],
+    ) -> Result<(), Failed>
+        requires image { index < 3 }
+        requires sector { sector < 3072 }
+        ensures layout { self.new.layout ≡ self.old.layout }
+        ensures kept { self.new.wrote ≡ self.old.wrote }
+    {
         self.look_again(rt, errors, index)?;
         let image = self.images[index].as_mut().ok_or(Failed)?;
         let done = image.write(rt, sector, from);
-        self.wrote[index] = done.is_ok();
         self.doubted[index] = done.is_err();
         tell(rt, errors, image.name(), &mut self.told[index], done)?;
         if sector == 0 {
@@ -268,11 +306,7 @@ impl Disk {
     pub(crate) fn is_written(&self) -> bool
         ensures { result ≡ is_written self.now.layout self.now.wrote }
     {
-        let [first, second, third] = self.wrote;
-        match self.layout {
-            Layout::One => first,
-            Layout::Three => first && second || third && (first || second),
-        }
+        self.layout.is_written(self.wrote)
     }
 
     /// Ends the boot of a node that has left, in each image that knows of boots. Where that fails another machine cannot open the node
@@ -287,22 +321,6 @@ impl Disk {
                 let done = image.end_boot(rt);
                 let _ = reported(errors, image.name(), done);
             }
-        }
-    }
-
-    /// The place of the image that has a sector, and the number of the sector there.
-    fn place(&self, sector: u32) -> (usize, u32)
-        requires { sector < 3072 }
-        ensures image { result.0 ≡ image_of self.now.layout sector }
-        ensures sector { result.1 ≡ sector_there self.now.layout sector }
-        ensures few { result.0 < 3 }
-        ensures there { result.1 < 3072 }
-    {
-        match self.layout {
-            Layout::One => (0, sector),
-            Layout::Three if sector < IMAGE_SECTORS => (0, sector),
-            Layout::Three if sector < 2 * IMAGE_SECTORS => (1, sector - IMAGE_SECTORS),
-            Layout::Three => (2, sector - 2 * IMAGE_SECTORS),
         }
     }
 }
@@ -471,7 +489,9 @@ fn tell<C: Clock, E: Eprint>(
     name: &str,
     told: &mut Option<Told>,
     done: io::Result<()>,
-) -> Result<(), Failed> {
+) -> Result<(), Failed>
+    ensures { is_ok result ≡ is_ok done }
+{
     let Err(error) = done else {
         return Ok(());
     };
@@ -495,13 +515,13 @@ fn keep_first(header: &mut Option<[u8; SECTOR]>, sector: &[u8; SECTOR]) {
 
 /// The times of the header of an image, where it is open and has one, which is kept where it is the first. Where a word of a machine was said before
 /// the command the header is judged, and a line says why it is not taken.
-fn header_times<R: Files<File = File> + Net<Stream = TcpStream> + Clock, E: Eprint>(
+fn read_times<R: Files<File = File> + Net<Stream = TcpStream> + Clock, E: Eprint>(
     rt: &R,
     errors: &E,
     edge: &Edge,
     image: &mut Option<Image>,
     header: &mut Option<[u8; SECTOR]>,
-) -> Option<EdgeTimes> {
+) -> Option<Times> {
     let image = image.as_mut()?;
     let mut sector = [0; SECTOR];
     let read = image.read(rt, 0, &mut sector);
@@ -511,7 +531,7 @@ fn header_times<R: Files<File = File> + Net<Stream = TcpStream> + Clock, E: Epri
             read.ok()?;
             let (_, timing) = get_header(&sector)?;
             keep_first(header, &sector);
-            Some(EdgeTimes::of(&timing))
+            Some(header_times(&timing))
         }
         Absent::Refused => {
             reported(errors, name, read).ok()?;

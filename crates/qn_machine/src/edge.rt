@@ -3,19 +3,9 @@
 use crate::named_file::Absent;
 use crate::standing_text::NOTHING;
 use qn_links::{ArbiterPlace, Networks};
-use qn_seal::{Keys, Texts, text_of};
+use qn_peers::{Guard, Guarding};
+use qn_seal::{Texts, text_of};
 use qn_shown::HostStanding;
-
-/// What guards the packets between nodes.
-#[derive(Clone, Copy)]
-pub enum Guard {
-    /// Nothing was said of it: packets carry no seal, which the opening of a node says in a line.
-    Unsaid,
-    /// Packets carry no seal, since the network is closed to others.
-    ClosedNetwork,
-    /// Each packet is sealed under the first of the keys, and opened by each.
-    Sealed(Keys),
-}
 
 /// What `create` writes over.
 #[derive(Clone, Copy, PartialEq, Eq)]
@@ -70,10 +60,13 @@ impl Edge {
         }
     }
 
-    /// Whether votes of a quorum device of this host are taken: only where nothing was said of the network, since any user of the host can
-    /// send one.
-    pub(crate) fn takes_votes(&self) -> bool {
-        self.networks.is_none() && matches!(self.guard, Guard::Unsaid)
+    /// What guards the packets of a node.
+    pub(crate) fn guarding(&self) -> Guarding {
+        Guarding {
+            guard: self.guard,
+            texts: self.texts,
+            is_one_host: self.networks.is_none(),
+        }
     }
 
     /// How many nodes the settings text has, where one was given.

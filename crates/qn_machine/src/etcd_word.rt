@@ -1,8 +1,9 @@
 //! The word of an image in an etcd cluster: `etcd:HOST:PORT/PREFIX`.
 
-use crate::edge::{Edge, Guard};
+use crate::edge::Edge;
 use crate::image_word::LONG;
 use qn_etcd::MOST_PREFIX;
+use qn_peers::Guard;
 use std::io::{self, ErrorKind};
 use std::net::SocketAddr;
 

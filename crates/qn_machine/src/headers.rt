@@ -1,24 +1,16 @@
 //! What the outside of a node takes of the headers of its images.
-ghost use Rattle.std.specs.Prelude.{◌≡◌, min};
+ghost use Rattle.std.specs.Prelude.{◌≡◌};
 ghost use Rattle.qn_sector.specs.Reading.{header_of};
-ghost use Rattle.qn_machine.specs.Headers.{edge_times, header_fault, times_fault, times_of};
+ghost use Rattle.qn_machine.specs.Headers.{header_times, header_fault, times_fault, times_of};
 
 use qn_model::{Timing, timing_safe};
+use qn_outside::Times;
 use qn_sector::get_header;
 use std::fmt;
 use std::fmt::Display;
 
 /// The least feed delay at which a feed can be in time, in milliseconds.
 const LEAST_FEED_DELAY: u64 = 2;
-
-/// What the outside of a node keeps by, of the times of its images, in milliseconds.
-#[derive(Clone, Copy, PartialEq, Eq)]
-pub(crate) struct EdgeTimes {
-    /// Its watchdog has to be no slower.
-    pub(crate) watchdog: u64,
-    /// Within half of it a feed is given or not at all.
-    pub(crate) feed_delay: u64,
-}
 
 /// Why a node is not opened beside an image.
 #[derive(Clone, Copy, PartialEq, Eq)]
@@ -31,39 +23,6 @@ pub(crate) enum HeaderFault {
     UnsafeTimes,
     /// Its feed delay is so short, in milliseconds, that no feed is in time.
     NoFeed(u64),
-}
-
-impl EdgeTimes {
-    /// Times that bound nothing, of an image that says none.
-    pub(crate) fn longest() -> EdgeTimes {
-        EdgeTimes {
-            watchdog: u64::MAX,
-            feed_delay: u64::MAX,
-        }
-    }
-
-    /// Those of a header.
-    pub(crate) fn of(timing: &Timing) -> EdgeTimes
-        ensures { result ≡ edge_times timing.now }
-    {
-        EdgeTimes {
-            watchdog: timing.watchdog,
-            feed_delay: timing.feed_delay,
-        }
-    }
-
-    /// The lesser of both, each by itself.
-    pub(crate) fn least(self, other: EdgeTimes) -> EdgeTimes
-        ensures { result ≡ record {
-          watchdog = min self.watchdog other.watchdog;
-          feed_delay = min self.feed_delay other.feed_delay;
-        } }
-    {
-        EdgeTimes {
-            watchdog: self.watchdog.min(other.watchdog),
-            feed_delay: self.feed_delay.min(other.feed_delay),
-        }
-    }
 }
 
 impl Display for HeaderFault {
@@ -83,15 +42,25 @@ impl Display for HeaderFault {
     }
 }
 
+/// What the outside of a node keeps by, of the times of a header.
+pub(crate) fn header_times(timing: &Timing) -> Times
+    ensures { result ≡ header_times timing.now }
+{
+    Times {
+        watchdog: timing.watchdog,
+        feed_delay: timing.feed_delay,
+    }
+}
+
 /// The times that sector 0 of an image says, where a node of a text of so many nodes is to be opened there; else why it is not.
-pub(crate) fn times_of(sector: &[u8; 512], text: Option<u32>) -> Result<EdgeTimes, HeaderFault>
+pub(crate) fn times_of(sector: &[u8; 512], text: Option<u32>) -> Result<Times, HeaderFault>
     ensures { result ≡ times_of text (header_of sector.now) }
 {
     let Some((nodes, timing)) = get_header(sector) else {
         return Err(HeaderFault::NoHeader);
     };
     match header_fault(text, nodes, &timing) {
-        None => Ok(EdgeTimes::of(&timing)),
+        None => Ok(header_times(&timing)),
         Some(fault) => Err(fault),
     }
 }

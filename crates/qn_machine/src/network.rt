@@ -1,13 +1,10 @@
 //! The network of the nodes and of their arbiter: a UDP socket each, at the port of its rank on its address, which is 127.0.0.1 where nothing
 //! else is said; and on two networks two sockets of each node, over which each packet is sent.
-ghost use Rattle.std.specs.Prelude.{◌≤◌, IfOk, IfSome};
-
 use crate::deadline::Deadline;
-use crate::edge::{Edge, Guard};
+use crate::edge::Edge;
 use crate::error_lines::Lines;
 use crate::leave_file::{LeaveFile, REQUEST};
 use crate::refusals::Refusals;
-use crate::sealing::Sealing;
 use crate::socket::open_socket;
 use crate::sockets::Sockets;
 use crate::standing_file::StandingFile;
@@ -17,9 +14,9 @@ use qn_base::Rank;
 use qn_io::PACKET;
 use qn_links::{ArbiterPlace, Networks};
 use qn_peers::{
-    ARBITER, Admission, Destination, Peers, Reason, Sender, is_double, is_vote_of_host,
+    ARBITER, Admission, Admitted, Destination, Dispatch, Peers, Reason, Sender, is_double,
 };
-use qn_seal::{Receiver, Refused};
+use qn_seal::Refused;
 use qn_shown::{get_told, put_told};
 use std::fs::File;
 use std::io::{self, ErrorKind};
@@ -40,10 +37,8 @@ pub(crate) struct Network {
     sockets: Sockets,
     /// The same port of this host, where the node has another address: the lock on the node, of which nothing is read.
     _lock: Option<UdpSocket>,
-    /// Whether votes of a quorum device of this host are taken.
-    takes_votes: bool,
     admission: Admission,
-    sealing: Option<Sealing>,
+    dispatch: Dispatch,
     refusals: Refusals,
     /// With what this host asks its node to leave.
     leave: Option<LeaveFile>,
@@ -71,47 +66,34 @@ impl Network {
             Some(open_socket(rt, SocketAddr::new(host, own.first.port()))?)
         };
         let sockets = Sockets::open(rt, own, Duration::from_millis(WAIT))?;
-        let (receiver, sealing) = match edge.guard {
-            Guard::Unsaid | Guard::ClosedNetwork => (None, None),
-            Guard::Sealed(keys) => (
-                Some(Receiver::new(rank.0, peers.count(), keys, edge.texts)),
-                Some(Sealing::new(rt, keys.first, edge.texts.first, rank)?),
-            ),
-        };
+        let guarding = edge.guarding();
+        let dispatch = Dispatch::new(rt, rank, &guarding)?;
         Ok(Network {
             sockets,
             _lock: lock,
-            takes_votes: edge.takes_votes(),
-            admission: Admission {
-                peers,
-                arbiter,
-                receiver,
-            },
-            sealing,
+            admission: Admission::new(peers, arbiter, &guarding),
+            dispatch,
             refusals: Refusals::default(),
             leave: path_of(rt, &edge.leave)?.map(LeaveFile::at),
             standing: StandingFile::at(path_of(rt, &edge.standing_file)?, edge.standing),
         })
     }
 
-    /// Takes a packet, the first 129 bytes of a longer one; None where none came in time. What is not for the node is passed over, and
+    /// The next packet, the first 129 bytes of a longer one; None where none came in time. What is not for the node is passed over, and
     /// the call goes on with the time that is left; so it does after an interruption. Where this host asks its node to leave, that
     /// comes first, and then what this host says anew of it.
     pub(crate) fn receive<R: Files<File = File> + Net + Clock + Eprint>(
         &mut self,
         rt: &R,
         lines: &Lines,
-        packet: &mut [u8; PACKET],
-    ) -> io::Result<Option<usize>>
-        ensures { IfOk result (λ came. IfSome came (λ count. count ≤ 129)) }
-    {
+    ) -> io::Result<Option<Admitted>> {
         if let Some(leave) = &mut self.leave {
             if leave.has_come(rt)? {
-                return Ok(Some(put(&REQUEST, packet)));
+                return Ok(Admitted::of_host(&REQUEST));
             }
         }
         if let Some(word) = self.standing.news(rt, lines)? {
-            return Ok(Some(put(&word, packet)));
+            return Ok(Admitted::of_host(&word));
         }
         if let Some(telling) = lines.voices().take_due() {
             self.sockets.open_again(rt);
@@ -120,8 +102,8 @@ impl Network {
         let end = Deadline::after(rt, WAIT)?;
         let mut left = Duration::from_millis(WAIT);
         'looks: for _ in 0..LOOKS {
-            if let Some(count) = self.take_within(rt, lines, left, packet)? {
-                return Ok(Some(count));
+            if let Some(packet) = self.take_within(rt, lines, left)? {
+                return Ok(Some(packet));
             }
             left = match end.left(rt)? {
                 Some(left) => left,
@@ -137,44 +119,39 @@ impl Network {
         clock: &C,
         lines: &Lines,
         time: Duration,
-        packet: &mut [u8; PACKET],
-    ) -> io::Result<Option<usize>>
-        ensures { IfOk result (λ came. IfSome came (λ count. count ≤ 129)) }
-    {
+    ) -> io::Result<Option<Admitted>> {
         let mut datagram = [0; PACKET];
         let Some((count, from)) = self.sockets.receive(time, &mut datagram)? else {
             return Ok(None);
         };
         let tick = u64::try_from(clock.monotonic()?.as_millis()).unwrap_or(u64::MAX);
-        Ok(self.take(tick, lines, from, &datagram[..count], packet))
+        Ok(self.take(tick, lines, from, &datagram[..count]))
     }
 
-    /// Puts a datagram of that address into the buffer, where it is for the node, and gives how many bytes it has there.
+    /// The packet in a datagram of that address, where it is for the node.
     fn take(
         &mut self,
         tick: u64,
         lines: &Lines,
         from: SocketAddr,
         bytes: &[u8],
-        packet: &mut [u8; PACKET],
-    ) -> Option<usize>
-        ensures { IfSome result (λ count. count ≤ 129) }
-    {
-        if self.takes_votes && is_vote_of_host(from, bytes) {
-            return Some(put(bytes, packet));
+    ) -> Option<Admitted> {
+        if let Some(vote) = self.admission.take_vote(from, bytes) {
+            return Some(vote);
         }
         let sender = self.admission.sender_of(from);
         match self.admission.take(tick, from, bytes) {
-            Ok(inner) => {
+            Ok(packet) => {
                 self.note_arrival(lines, sender, tick);
-                match get_told(inner) {
+                let said = get_told(packet.as_slice());
+                match said {
                     Some((teller, told)) => {
                         if is_rank(sender, teller) {
                             lines.voices().hear(teller, told, tick);
                         }
                         None
                     }
-                    None => Some(put(inner, packet)),
+                    None => Some(packet),
                 }
             }
             Err(reason) if is_double(&self.admission.peers, sender, reason) => {
@@ -246,13 +223,8 @@ impl Network {
         let Some(destination) = self.destination_of(to)? else {
             return Ok(());
         };
-        match &mut self.sealing {
-            None => self.sockets.send(bytes, destination),
-            Some(sealing) => {
-                let sealed = sealing.seal(to, bytes)?;
-                self.sockets.send(sealed.as_slice(), destination)
-            }
-        }
+        let packet = self.dispatch.packet(to, bytes)?;
+        self.sockets.send(&packet, destination)
     }
 
     /// Where packets for the node of that rank are sent, or for the arbiter as rank 32, which is on the first network alone.
@@ -341,13 +313,4 @@ fn address_of_arbiter(edge: &Edge, first_port: u16) -> Option<SocketAddr> {
         None => first_port.checked_add(u16::from(ARBITER))?,
     };
     Some(SocketAddr::new(at.address, port))
-}
-
-/// Puts bytes at the beginning of the buffer, as many as it has room for, and gives how many these are.
-fn put(bytes: &[u8], packet: &mut [u8; PACKET]) -> usize
-    ensures { result ≤ 129 }
-{
-    let count = bytes.len().min(PACKET);
-    packet[..count].copy_from_slice(&bytes[..count]);
-    count
 }

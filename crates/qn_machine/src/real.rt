@@ -59,12 +59,7 @@ impl<
         ensures { result ≡ 0 }
     {
         RealEnv {
-            outside: Outside {
-                machine: RealMachine::new(rt, edge, lines),
-                last_tick: None,
-                feed_delay: 0,
-                faults: 0,
-            },
+            outside: Outside::new(RealMachine::new(rt, edge, lines)),
             waiting: None,
         }
     }
@@ -124,7 +119,7 @@ impl<
         ensures within { IfOk result (λ came. IfSome came (λ count. count ≤ 129)) }
         ensures same { self.new ≡ self.old }
     {
-        let tick = self.outside.last_tick.unwrap_or(0);
+        let tick = self.outside.last_tick().unwrap_or(0);
         self.outside.machine.receive(tick, packet)
     }
 }

@@ -1,12 +1,11 @@
 //! The machine of a node as it is: what each deed is at its devices, its files and its network.
 
 use crate::disk::Disk;
-use crate::edge::{Edge, Guard};
+use crate::edge::Edge;
 use crate::error_lines::Lines;
 use crate::etcd_word::check_reach;
 use crate::file_size_limit::refuse_file_size_limit;
 use crate::halt_file::HaltFile;
-use crate::headers::EdgeTimes;
 use crate::image::Opener;
 use crate::journal_lines::opening_line;
 use crate::named_file::Absent;
@@ -19,6 +18,7 @@ use qn_base::{Failed, Rank};
 use qn_exchange::{Obeyed, Order};
 use qn_io::{Opening, PACKET, SECTOR};
 use qn_outside::{Machine, Times};
+use qn_peers::Guard;
 use std::fs::File;
 use std::io;
 use std::net::{Net, TcpStream};
@@ -123,9 +123,12 @@ impl<
     {
         let errors = self.lines.over(&self.rt);
         let network = self.network.as_mut().ok_or(Failed)?;
-        let came = network.receive(&self.rt, self.lines, packet);
+        let came = network.receive(&self.rt, self.lines);
         network.say_refusals(&self.rt, self.lines, tick);
-        reported(&errors, "network", came)
+        match reported(&errors, "network", came)? {
+            Some(admitted) => Ok(Some(admitted.put(packet))),
+            None => Ok(None),
+        }
     }
 
     /// Sends a packet over the network, where that is open.
@@ -153,9 +156,12 @@ impl<
         self.disk.write(&self.rt, &errors, sector, from, overwrites)
     }
 
-    /// Tries again to open an image of three that is not open.
+    /// Tries again to open an image of three that is not open. That it was opened is told.
     pub(crate) fn open_again(&mut self) {
-        self.disk.open_again(&self.rt, &self.lines.over(&self.rt));
+        let opened = self.disk.open_again(&self.rt, &self.lines.over(&self.rt));
+        if let Some(place) = opened {
+            self.lines.voices().note_opened(place);
+        }
     }
 
     /// Tells the file for halts of a halt, where there is one.
@@ -262,14 +268,10 @@ impl<
     fn read_headers(&mut self) -> Result<Times, Failed> {
         let errors = self.lines.over(&self.rt);
         let found = self.disk.edge_times(&self.rt, &errors, &self.edge);
-        let times = match self.edge.absent() {
-            Absent::Made => found.unwrap_or(EdgeTimes::longest()),
-            Absent::Refused => found?,
-        };
-        Ok(Times {
-            watchdog: times.watchdog,
-            feed_delay: times.feed_delay,
-        })
+        match self.edge.absent() {
+            Absent::Made => Ok(found.unwrap_or(Times::longest())),
+            Absent::Refused => found,
+        }
     }
 
     fn stop_first(&mut self, opening: &Opening<'_>) -> Result<Obeyed, Failed> {

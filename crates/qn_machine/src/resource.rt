@@ -32,7 +32,7 @@ impl Resource {
         word: &str,
         absent: Absent,
     ) -> io::Result<(Resource, Obeyed)>
-        ensures { IfOk result (λ opened. opened.1.order ≡ Stop) }
+        ensures { IfOk result (λ opened. opened.1 ≡ Stop) }
     {
         let resource = match word.strip_prefix(SOCKET) {
             Some(path) => Resource::Agent(Agent::new(path)?),
@@ -53,7 +53,7 @@ impl Resource {
     /// Has it started or stopped. A file takes the word at its first byte; an agent has to answer that it is
     /// done.
     pub(crate) fn order<R: Net + Clock>(&self, rt: &R, order: Order) -> io::Result<Obeyed>
-        ensures { IfOk result (λ obeyed. obeyed.order ≡ order) }
+        ensures { IfOk result (λ obeyed. obeyed ≡ order) }
     {
         match self {
             Resource::File(file) => put_order(order, &mut FromStart::of(file)),

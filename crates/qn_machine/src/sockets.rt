@@ -4,7 +4,7 @@ ghost use Rattle.std.specs.Prelude.{◌≤◌, IfOk, IfSome};
 use crate::socket::{Came, LoneSocket};
 use crate::socket_pair::SocketPair;
 use qn_io::PACKET;
-use qn_peers::Destination;
+use qn_peers::{Destination, Outgoing};
 use std::io;
 use std::net::{Net, SocketAddr};
 use std::time::Duration;
@@ -59,11 +59,11 @@ impl Sockets {
         }
     }
 
-    /// Sends a datagram over each network on which its receiver is. It is sent where it went over one.
-    pub(crate) fn send(&self, bytes: &[u8], to: Destination) -> io::Result<()> {
+    /// Sends a packet over each network on which its receiver is. It is sent where it went over one.
+    pub(crate) fn send(&self, packet: &Outgoing, to: Destination) -> io::Result<()> {
         match self {
-            Sockets::One(socket) => socket.send(bytes, to.first),
-            Sockets::Two(pair) => pair.send(bytes, to),
+            Sockets::One(socket) => socket.send(packet.as_slice(), to.first),
+            Sockets::Two(pair) => pair.send(packet.as_slice(), to),
         }
     }
 }

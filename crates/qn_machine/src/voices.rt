@@ -39,6 +39,8 @@ pub struct Voices {
     arbiter: Cell<Option<SocketAddr>>,
     /// What the node was handed last of what its host says of it.
     standing: Cell<Option<HostStanding>>,
+    /// The place of the one of three images that was opened since that was asked for.
+    opened: Cell<Option<u8>>,
 }
 
 impl Voices {
@@ -52,6 +54,7 @@ impl Voices {
             limit: Cell::new(u64::MAX),
             arbiter: Cell::new(None),
             standing: Cell::new(None),
+            opened: Cell::new(None),
         }
     }
 
@@ -125,6 +128,16 @@ impl Voices {
     /// Where the arbiter is that the node polls, where it has one.
     pub fn arbiter(&self) -> Option<SocketAddr> {
         self.arbiter.get()
+    }
+
+    /// The image at that place, of three, was opened late, and has the header of the cluster.
+    pub(crate) fn note_opened(&self, place: u8) {
+        self.opened.set(Some(place));
+    }
+
+    /// The place of the image that was opened late, once.
+    pub fn take_opened(&self) -> Option<u8> {
+        self.opened.replace(None)
     }
 
     /// The node is handed that its host says this of it; None: nothing.

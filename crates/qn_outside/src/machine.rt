@@ -4,16 +4,10 @@ ghost use Rattle.qn_exchange.specs.declared.order.Order.TheVariants.{Stop};
 ghost use Rattle.qn_outside.specs.Deeds.{Deed, Does, IsInTime};
 ghost use Rattle.qn_outside.specs.Deeds.{Armed, Disarmed, Fed, Glanced, HeadersRead, ImagesOpened, Listened, Looked, Opened, Ordered, StoppedFirst, Ticked};
 
+use crate::times::Times;
 use qn_base::Failed;
 use qn_exchange::{Obeyed, Order};
 use qn_io::Opening;
-
-/// What the headers of the images say, in milliseconds.
-#[derive(Clone, Copy)]
-pub struct Times {
-    pub watchdog: u64,
-    pub feed_delay: u64,
-}
 
 /// The machine of a node: each call is one deed. `did` is the list of what it did so far, of a machine that tells it.
 pub trait Machine {
@@ -31,7 +25,7 @@ pub trait Machine {
     /// Has the resource started or stopped.
     fn order(&mut self, order: Order) -> Result<Obeyed, Failed>
         ensures did { Does (did self.old) (did self.new) (Ordered order (is_ok result) ∷ []) }
-        ensures obeyed { IfOk result (λ obeyed. obeyed.order ≡ order) };
+        ensures obeyed { IfOk result (λ obeyed. obeyed ≡ order) };
 
     /// Feeds the watchdog, where that is in time.
     fn feed(&mut self, last: Option<u64>, tick: Option<u64>, feed_delay: u64) -> Result<(), Failed>
@@ -59,7 +53,7 @@ pub trait Machine {
     /// Opens the resource, and has it stopped; and the file for halts, where there is one.
     fn stop_first(&mut self, opening: &Opening<'_>) -> Result<Obeyed, Failed>
         ensures did { Does (did self.old) (did self.new) (StoppedFirst (is_ok result) ∷ []) }
-        ensures obeyed { IfOk result (λ obeyed. obeyed.order ≡ Stop) };
+        ensures obeyed { IfOk result (λ obeyed. obeyed ≡ Stop) };
 
     /// Looks at the watchdog before it is armed, beside that time in milliseconds.
     fn look(&mut self, opening: &Opening<'_>, watchdog: u64) -> Result<(), Failed>

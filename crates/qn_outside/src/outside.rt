@@ -7,21 +7,44 @@ use qn_base::Failed;
 use qn_exchange::{Obeyed, Order};
 use qn_io::Opening;
 
-/// The outside of a node: its machine, the last answer of the clock, the feed delay of the images, and the count of faults.
+/// The outside of a node: its machine, the last answer of the clock, the feed delay of the images in milliseconds, and the count of faults.
+/// No other crate sets the last answer or the feed delay.
 #[derive(Drop)]
 pub struct Outside<M: Machine + Drop> {
     pub machine: M,
-    pub last_tick: Option<u64>,
-    pub feed_delay: u64,
+    last_tick: Option<u64>,
+    feed_delay: u64,
     pub faults: u64,
 }
 
 impl<M: Machine + Drop> Outside<M> {
-    ghost use Rattle.std.specs.Prelude.{◌≡◌, ◌∷◌, [], OnOk, is_ok, option_map};
+    ghost use Rattle.std.specs.Prelude.{◌≡◌, ◌∷◌, [], None, Some, IfNone, IfSome, OnErr, OnOk, is_ok, option_map};
     ghost use Rattle.qn_base.specs.declared.calls.Call.TheVariants.{Now, Feed, Start, Stop, Disarm};
     ghost use Rattle.qn_base.specs.Plans.{Made};
     ghost use Rattle.qn_io.specs.Openings.{node_opening};
     ghost use Rattle.qn_outside.specs.Deeds.{calls_of, FeedsInTime, OpensInOrder, OpensParts, Silent};
+
+    /// The outside of a node over this machine, before it is opened: without an answer of the clock, and with a feed delay of 0, at which
+    /// nothing is fed.
+    pub fn new(machine: M) -> Outside<M>
+        ensures unread { result.last_tick ≡ None }
+        ensures unfed { result.feed_delay ≡ 0 }
+        ensures machine { (result.machine ≡ machine) × (result.faults ≡ 0) }
+    {
+        Outside {
+            machine,
+            last_tick: None,
+            feed_delay: 0,
+            faults: 0,
+        }
+    }
+
+    /// The last answer of the clock, where there was one, in milliseconds.
+    pub fn last_tick(&self) -> Option<u64>
+        ensures { result ≡ self.now.last_tick }
+    {
+        self.last_tick
+    }
 
     /// Opens all that a node uses; the watchdog is armed last.
     pub fn open_node(&mut self, opening: &Opening<'_>) -> Result<(), Failed>
@@ -30,6 +53,8 @@ impl<M: Machine + Drop> Outside<M> {
             (node_opening opening.now (is_ok result) ∷ []) }
         ensures order { OnOk result (OpensInOrder (M.did self.old.machine) (M.did self.new.machine)
             opening.now self.new.feed_delay) }
+        ensures unopened { OnErr result (self.new.feed_delay ≡ self.old.feed_delay) }
+        ensures kept { self.new.last_tick ≡ self.old.last_tick }
     {
         let done = self.open_parts(opening);
         let ok = done.is_ok();
@@ -41,7 +66,9 @@ impl<M: Machine + Drop> Outside<M> {
     fn open_parts(&mut self, opening: &Opening<'_>) -> Result<(), Failed>
         ensures parts { OnOk result (OpensParts (M.did self.old.machine) (M.did self.new.machine) self.new.feed_delay) }
         ensures silent { Silent (M.did self.old.machine) (M.did self.new.machine) }
+        ensures unopened { OnErr result (self.new.feed_delay ≡ self.old.feed_delay) }
         ensures faults { self.new.faults ≡ self.old.faults }
+        ensures kept { self.new.last_tick ≡ self.old.last_tick }
     {
         self.machine.listen(opening)?;
         self.machine.open_images(opening)?;
@@ -58,6 +85,9 @@ impl<M: Machine + Drop> Outside<M> {
         ensures made { Made self.old.faults self.new.faults
             (option_map calls_of (M.did self.old.machine)) (option_map calls_of (M.did self.new.machine))
             (Now result ∷ []) }
+        ensures last { IfSome self.new.last_tick (λ tick. tick ≡ result) }
+        ensures known { IfSome self.old.last_tick (λ _. self.new.last_tick ≡ Some result) }
+        ensures unread { IfNone self.new.last_tick (HasRisen self.old.faults self.new.faults) }
         ensures kept { self.new.feed_delay ≡ self.old.feed_delay }
     {
         let (tick, ok) = self.machine.tick(self.last_tick.unwrap_or(0));
@@ -75,6 +105,8 @@ impl<M: Machine + Drop> Outside<M> {
             (Feed (is_ok result) ∷ []) }
         ensures in_time { OnOk result (FeedsInTime (M.did self.old.machine) (M.did self.new.machine)
             self.old.last_tick self.old.feed_delay) }
+        ensures kept { (self.new.last_tick ≡ self.old.last_tick)
+            × (self.new.feed_delay ≡ self.old.feed_delay) }
     {
         let tick = self.machine.glance();
         let done = self.machine.feed(self.last_tick, tick, self.feed_delay);
@@ -87,6 +119,8 @@ impl<M: Machine + Drop> Outside<M> {
         ensures made { Made self.old.faults self.new.faults
             (option_map calls_of (M.did self.old.machine)) (option_map calls_of (M.did self.new.machine))
             (Start (is_ok result) ∷ []) }
+        ensures kept { (self.new.last_tick ≡ self.old.last_tick)
+            × (self.new.feed_delay ≡ self.old.feed_delay) }
     {
         let answer = self.machine.order(Order::Start);
         let done = settled(answer);
@@ -99,6 +133,8 @@ impl<M: Machine + Drop> Outside<M> {
         ensures made { Made self.old.faults self.new.faults
             (option_map calls_of (M.did self.old.machine)) (option_map calls_of (M.did self.new.machine))
             (Stop (is_ok result) ∷ []) }
+        ensures kept { (self.new.last_tick ≡ self.old.last_tick)
+            × (self.new.feed_delay ≡ self.old.feed_delay) }
     {
         let answer = self.machine.order(Order::Stop);
         let done = settled(answer);
@@ -111,6 +147,8 @@ impl<M: Machine + Drop> Outside<M> {
         ensures made { Made self.old.faults self.new.faults
             (option_map calls_of (M.did self.old.machine)) (option_map calls_of (M.did self.new.machine))
             (Disarm (is_ok result) ∷ []) }
+        ensures kept { (self.new.last_tick ≡ self.old.last_tick)
+            × (self.new.feed_delay ≡ self.old.feed_delay) }
     {
         let done = self.machine.disarm();
         self.faults = counted(self.faults, done.is_ok());

@@ -1,5 +1,5 @@
 -- Which datagrams are handed to a node (this project's profile).
-use Rattle.std.specs.Prelude.{◌≡◌, ℕ, ◌==◌, ◌&&◌, ◌||◌, Bool, true, false, not, nat_lt, is_some, List, length, slice_index, Option, Some, None, Ok, Err}
+use Rattle.std.specs.Prelude.{◌≡◌, ℕ, ◌==◌, ◌&&◌, ◌||◌, Bool, true, false, not, nat_lt, is_some, List, length, min, slice_index, take, Option, Some, None, Ok, Err}
 use Rattle.std.specs.Net.Socket.{socket_ip, socket_port}
 use Rattle.std.specs.declared.net.ip_addr.IpAddr.{IpAddr}
 use Rattle.std.specs.declared.net.socket_addr.SocketAddr.{SocketAddr}
@@ -76,6 +76,16 @@ abbrev pub IsOpened : Option Receiver → ℕ → List ℕ → List ℕ → Type
 IsOpened None tick bytes inner = inner ≡ bytes
 IsOpened (Some receiver) tick bytes inner =
     judged receiver tick (opened_by receiver.keys receiver.texts bytes) ≡ Ok inner
+
+-- the first 129 bytes, or all where these are fewer
+abbrev pub front_of : List ℕ → List ℕ
+front_of bytes = take (min 129 (length bytes)) bytes
+
+-- the packet that is handed on: the front of that
+pub record IsHanded (receiver : Option Receiver) (tick : ℕ) (bytes packet : List ℕ) : Type 0 where
+  pub inner : List ℕ
+  pub opened : IsOpened receiver tick bytes inner
+  pub front : packet ≡ front_of inner
 
 -- the receiver of seals, where there is one, once it took that datagram
 abbrev pub receiver_after_taking : Option Receiver → ℕ → List ℕ → Option Receiver

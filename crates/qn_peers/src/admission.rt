@@ -1,8 +1,11 @@
 //! Which of the datagrams that come are handed to the node.
 ghost use Rattle.std.specs.Prelude.{◌≡◌};
 ghost use Rattle.std.specs.Net.Socket.{socket_ip, socket_port};
-ghost use Rattle.qn_peers.specs.Admission.{IsOf, IsOpened, IsOwn, IsRefused, is_double, is_of_host, is_reply, is_request, is_strange, is_vote, is_word, names_other, receiver_after_taking, seat_of};
+ghost use Rattle.qn_peers.specs.Admission.{IsHanded, IsOf, IsOpened, IsOwn, IsRefused, front_of, is_double, is_of_host, is_reply, is_request, is_strange, is_vote, is_word, names_other, receiver_after_taking, seat_of};
+ghost use Rattle.qn_peers.specs.Guards.{OpensBy, keys_of, takes_votes};
 
+use crate::admitted::Admitted;
+use crate::guard::Guarding;
 use crate::peers::Peers;
 use qn_links::Ring;
 use qn_seal::{Receiver, Refused};
@@ -61,18 +64,33 @@ impl Sender {
 }
 
 /// What is handed to the node: datagrams of other nodes and replies of the arbiter, and those alone that the receiver of seals takes, where
-/// there is one.
+/// there is one; and votes of the quorum device of this host, where these are taken.
 #[derive(Drop)]
 pub struct Admission {
     pub peers: Peers,
     /// Where the arbiter is that the node polls, where it has one.
     pub arbiter: Option<SocketAddr>,
-    pub receiver: Option<Receiver>,
+    receiver: Option<Receiver>,
+    takes_votes: bool,
 }
 
 impl Admission {
-    ghost use Rattle.std.specs.Prelude.{◌≡◌, OnOk, OnErr, IfOk, IfErr, IfSome, IfNone};
+    ghost use Rattle.std.specs.Prelude.{◌≡◌, OnOk, OnErr, IfOk, IfErr, IfSome, IfNone, true};
     ghost use Rattle.qn_peers.specs.declared.admission.Sender.{Sender};
+
+    /// With these places, under that guard.
+    pub fn new(peers: Peers, arbiter: Option<SocketAddr>, guarding: &Guarding) -> Admission
+        ensures places { (result.peers ≡ peers) × (result.arbiter ≡ arbiter) }
+        ensures opens { OpensBy guarding.now (keys_of guarding.now.guard) result.receiver }
+        ensures votes { result.takes_votes ≡ takes_votes guarding.now }
+    {
+        Admission {
+            peers,
+            arbiter,
+            receiver: receiver_for(&peers, guarding),
+            takes_votes: guarding.takes_votes(),
+        }
+    }
 
     /// Whose address and port these are.
     pub fn sender_of(&self, from: SocketAddr) -> Option<Sender>
@@ -90,12 +108,41 @@ impl Admission {
     }
 
     /// The packet in a datagram of that address, where it is handed to the node. What is not changes nothing.
-    pub fn take<'a>(
-        &mut self,
-        tick: u64,
-        from: SocketAddr,
-        bytes: &'a [u8],
-    ) -> Result<&'a [u8], Reason>
+    pub fn take(&mut self, tick: u64, from: SocketAddr, bytes: &[u8]) -> Result<Admitted, Reason>
+        ensures own { OnOk result
+            (IsOwn self.old bytes.now (socket_ip from) (socket_port from)) }
+        ensures handed { IfOk result (λ packet.
+            IsHanded self.old.receiver tick bytes.now packet) }
+        ensures moved { OnOk result
+            (self.new.receiver ≡ receiver_after_taking self.old.receiver tick bytes.now) }
+        ensures reason { IfErr result (λ why.
+            IsRefused self.old tick (socket_ip from) (socket_port from) bytes.now why) }
+        ensures same_places { (self.new.peers ≡ self.old.peers)
+            × (self.new.arbiter ≡ self.old.arbiter) }
+        ensures same { OnErr result (self.new ≡ self.old) }
+    {
+        match self.open(tick, from, bytes) {
+            Ok(inner) => Ok(Admitted::of(inner)),
+            Err(reason) => Err(reason),
+        }
+    }
+
+    /// A vote of the quorum device of this host, where these are taken and the datagram is one.
+    pub fn take_vote(&self, from: SocketAddr, bytes: &[u8]) -> Option<Admitted>
+        ensures its { IfSome result (λ packet. packet ≡ front_of bytes.now) }
+        ensures vote { IfSome result (λ _. is_vote bytes.now ≡ true) }
+        ensures taken { IfSome result (λ _. self.now.takes_votes ≡ true) }
+    {
+        let is_here = from.ip() == IpAddr::V4(Ipv4Addr::LOCALHOST);
+        if self.takes_votes && is_here && is_vote(bytes) {
+            Some(Admitted::of(bytes))
+        } else {
+            None
+        }
+    }
+
+    /// What is handed on of a datagram of that address, where it is.
+    fn open<'a>(&mut self, tick: u64, from: SocketAddr, bytes: &'a [u8]) -> Result<&'a [u8], Reason>
         ensures own { OnOk result
             (IsOwn self.old bytes.now (socket_ip from) (socket_port from)) }
         ensures opened { IfOk result (λ inner.
@@ -130,9 +177,12 @@ pub fn is_double(peers: &Peers, sender: Option<Sender>, reason: Reason) -> bool
     matches!(sender, Some(Sender::Rank(_, _))) && peers.networks.second.is_some()
 }
 
-/// Whether a datagram is a vote of the quorum device of this host.
-pub fn is_vote_of_host(from: SocketAddr, bytes: &[u8]) -> bool {
-    from.ip() == IpAddr::V4(Ipv4Addr::LOCALHOST) && is_vote(bytes)
+/// The receiver of seals of a node, where there are keys.
+fn receiver_for(peers: &Peers, guarding: &Guarding) -> Option<Receiver>
+    ensures { OpensBy guarding.now (keys_of guarding.now.guard) result }
+{
+    let keys = guarding.keys()?;
+    Some(Receiver::new(peers.own, peers.count(), keys, guarding.texts))
 }
 
 /// Whether a datagram without a seal is none that this sender sends: of a node what is of this host alone, or a reply, of the arbiter
@@ -154,14 +204,14 @@ fn names_other(bytes: &[u8], sender: u8) -> bool
 }
 
 /// Whether a datagram is as a request of this host that its node is to leave: of a kind that no packet of a network has.
-fn is_request(bytes: &[u8]) -> bool
+pub(crate) fn is_request(bytes: &[u8]) -> bool
     ensures { result ≡ is_request bytes.now }
 {
     matches!(bytes, [b'Q', b'N', LEAVE, _])
 }
 
 /// Whether a datagram is as what a host says of its node: of a kind that no packet of a network has.
-fn is_word(bytes: &[u8]) -> bool
+pub(crate) fn is_word(bytes: &[u8]) -> bool
     ensures { result ≡ is_word bytes.now }
 {
     matches!(bytes, [b'Q', b'N', WORD, _, _])

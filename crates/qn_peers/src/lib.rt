@@ -6,9 +6,16 @@
 #![tactic(auto)]
 
 mod admission;
+mod admitted;
 mod arrivals;
+mod guard;
+mod outgoing;
 mod peers;
+mod sealing;
 
-pub use admission::{ARBITER, Admission, LEAVE, Reason, Sender, WORD, is_double, is_vote_of_host};
+pub use admission::{ARBITER, Admission, LEAVE, Reason, Sender, WORD, is_double};
+pub use admitted::Admitted;
 pub use arrivals::Arrivals;
+pub use guard::{Guard, Guarding};
+pub use outgoing::{Dispatch, Outgoing};
 pub use peers::{Destination, Peers};

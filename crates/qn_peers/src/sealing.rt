@@ -1,7 +1,6 @@
 //! The seal of the packets that a node sends.
-ghost use Rattle.std.specs.Prelude.{◌≡◌, ◌<◌, ◌≤◌, ◌⊎◌, IfOk, OnOk, OnErr, length, replicate, slice_set};
-ghost use Rattle.qn_machine.specs.Numbers.{next_number};
-ghost use Rattle.qn_seal.specs.Seals.{sealed};
+ghost use Rattle.std.specs.Prelude.{◌≡◌, ◌<◌, ◌≤◌, ◌⊎◌, IfOk, OnOk, OnErr, length, replicate};
+ghost use Rattle.qn_peers.specs.Sending.{sealed_by, sealed_once};
 
 use arrayvec::ArrayVec;
 use qn_base::Rank;
@@ -50,17 +49,9 @@ impl Sealing {
 
     /// The packet under the next seal to that seat. It fails for more than 74 bytes, or for a seat above 32, and then seals nothing.
     pub(crate) fn seal(&mut self, to: Rank, packet: &[u8]) -> io::Result<ArrayVec<u8, 128>>
-        ensures sealed { IfOk result (λ bytes. bytes.items
-            ≡ sealed self.old.key self.old.text
-            (record {
-              from = self.old.from.0;
-              to = to.0;
-              boot = self.old.boot;
-              number = next_number self.old.sent to.0;
-            }) packet.now) }
-        ensures next { OnOk result (self.new ≡ record self.old {
-          sent = slice_set self.old.sent to.0 (next_number self.old.sent to.0);
-        }) }
+        ensures sealed { IfOk result (λ bytes.
+            bytes.items ≡ sealed_by self.old to.0 packet.now) }
+        ensures next { OnOk result (self.new ≡ sealed_once self.old to.0) }
         ensures fits { OnOk result ((to.0 < 33) × (length packet.now ≤ 74)) }
         ensures unfit { OnErr result ((33 ≤ to.0) ⊎ (74 < length packet.now)) }
         ensures same { OnErr result (self.new ≡ self.old) }
