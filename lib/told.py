@@ -96,6 +96,21 @@ class Seldom:
         return count
 
 
+class Stops:
+    """Of stops that fail one after the other, each at most three loops after the one before, the first is told, and of one that succeeds how many failed."""
+
+    def __init__(self):
+        self.failed, self.tick = 0, 0
+
+    def is_told(self, tick, loop):
+        if tick - self.tick > 3 * loop:
+            self.failed = 0
+        return self.failed == 0
+
+    def take(self, ok, tick):
+        self.failed, self.tick = (0, self.tick) if ok else (self.failed + 1, tick)
+
+
 class Told:
     """A node, turn by turn: what it knows, and what its journal says."""
 
@@ -112,7 +127,7 @@ class Told:
         self.last_look, self.is_asked_to_leave = 0, False
         self.word, self.pulls_since, self.before_tick = SILENT, None, 0  # what this host says of the node, and since when it pulls
         self.hellos, self.seen = {}, set()
-        self.late, self.refused = Seldom(), Seldom()
+        self.late, self.refused, self.stops = Seldom(), Seldom(), Stops()
         # of three images: of which the last call failed, whose header or mailbox is none, and of which it was told that it is lost
         self.failed, self.none, self.told_lost = [False] * 3, {"header": [False] * 3, "mailbox": [False] * 3}, [False] * 3
         self.before = self.standing()
@@ -211,6 +226,7 @@ class Told:
             self.take_answer(given)
         elif kind == "stopped":
             self.holds = self.holds and not given
+            self.stops.take(given, self.tick)
         elif kind == "leave":
             self.phase = "leaving"
         elif kind == "view":
@@ -404,9 +420,11 @@ class Told:
             rank = self.mailbox_of(words)
             if words[0] == "write" and rank is not None and rank != self.me:
                 self.say(WARNING, "fence-asked", "of=%d" % self.ids[rank])
-        for name in "start", "stop":
-            if any(words[0] == name for words in calls):
-                self.say(NOTICE, name + "-asked")
+        names = [words[0] for words in calls]
+        if "start" in names:
+            self.say(NOTICE, "start-asked")
+        if "stop" in names and self.stops.is_told(self.tick, self.loop):
+            self.say(NOTICE, "stop-asked")
 
     def mailbox_of(self, words):
         """The rank whose mailbox a call reads or writes."""
@@ -426,9 +444,10 @@ class Told:
 
     def answered(self, call):
         ok = call[-1] == "ok"
-        if call[0] in ("start", "stop", "disarm"):
+        if call[0] in ("start", "disarm"):
             self.say(NOTICE if ok else ERROR, call[0], "ok=" + ("yes" if ok else "no"))
         if call[0] == "stop":
+            self.tell_stop(ok)
             self.waits_stopped = ok
         if call[0] == "feed" and not ok:
             self.late.untold += 1
@@ -439,6 +458,13 @@ class Told:
                 self.none[call[3]][place] = call[4] == "no"
         if call[0] in ("read", "write"):
             self.waits_disk = self.answer_of(call)
+
+    def tell_stop(self, ok):
+        failed = self.stops.failed
+        if ok and failed:
+            self.say(NOTICE, "stop", "ok=yes", "count=%d" % failed)
+        elif ok or not failed:
+            self.say(NOTICE if ok else WARNING, "stop", "ok=" + ("yes" if ok else "no"))
 
     def answer_of(self, call):
         sector, rank = int(call[1]), self.mailbox_of(call)

@@ -57,6 +57,8 @@ def slow_stop():
     (cluster.folder / "leave").touch()
     same("answer", node.end(), (0, "left clean\n"))
     same("asked", agent.lines, ["stop\n", "start\n"] + 4 * ["stop\n"])
+    told = [(event["event"], event.get("ok"), event.get("count"), event["level"]) for event in node.events("stop-asked", "stop")]
+    same("told", told, [("stop-asked", None, None, "5"), ("stop", "no", None, "4"), ("stop", "yes", "3", "5")])
 
 
 def reset_while_it_stops():

@@ -17,14 +17,14 @@ use qn_leases::ArbiterNotices;
 use qn_live::{Asked, Came, Decoded, Given, LiveEnd, NodeRun, Notices, Standing};
 use qn_machine::{Lines, ReplacedFile};
 use qn_model::{MailSeen, Packet, Phase, Settings};
-use qn_news::{DeviceNews, Entered, IMAGE, Images, Peers, Seldom, Telling};
+use qn_news::{DeviceNews, Entered, IMAGE, Images, Peers, Seldom, Stops, Telling};
 use qn_notice::{Event, Observer};
 use qn_safety::{Lease, Poll};
 use qn_shown::Counts;
 use qn_told::{
-    device_answered, device_silent, ended, event_line, feeds_failed, image_back, image_lost,
-    mail_damaged, mail_failed, mail_told, network_back, network_lost, packets_refused, peer_lost,
-    peer_seen,
+    add_failed, device_answered, device_silent, ended, event_line, feeds_failed, image_back,
+    image_lost, mail_damaged, mail_failed, mail_told, network_back, network_lost, packets_refused,
+    peer_lost, peer_seen,
 };
 use std::fs::File;
 use std::rt::Files;
@@ -66,6 +66,7 @@ pub struct Journal<'a, R: Files<File = File> + Clock + Eprint> {
     greeted: Option<Rank>,
     refused: Seldom,
     late: Seldom,
+    stops: Stops,
     turns: u64,
     /// Whether something was told since the last status, and the tick of that.
     is_new: bool,
@@ -104,6 +105,7 @@ impl<'a, R: Files<File = File> + Clock + Eprint> Journal<'a, R> {
             greeted: None,
             refused: Seldom::default(),
             late: Seldom::default(),
+            stops: Stops::default(),
             turns: 0,
             is_new: false,
             written: None,
@@ -129,6 +131,7 @@ impl<'a, R: Files<File = File> + Clock + Eprint> Journal<'a, R> {
         match entered {
             Entered::Header(msgwait) => self.msgwait = msgwait,
             Entered::Mail(seen) => self.take_mail(seen, tick),
+            Entered::Stopped(ok) => self.stops.take(ok, tick),
             Entered::View | Entered::Device(_) | Entered::Nothing => {}
         }
         self.greet(tick, run);
@@ -252,13 +255,28 @@ impl<'a, R: Files<File = File> + Clock + Eprint> Journal<'a, R> {
         }
     }
 
-    /// Tells an event.
+    /// Tells an event; of stops that fail one after the other the first, and how many they were once one succeeds.
     fn tell(&mut self, event: &Event, run: &NodeRun) {
+        let Some(failed) = self.failed_before(event, run) else {
+            return;
+        };
         let mut line = event_line(self.now(), &run.settings().nodes, self.msgwait, event);
+        add_failed(&mut line, failed);
         if let Some(rank) = subject_of(event, run.rank()) {
             add_name(&mut line, self.names.of(rank));
         }
         self.say(&line);
+    }
+
+    /// How many stops failed before what an event tells; None where it is not told.
+    fn failed_before(&mut self, event: &Event, run: &NodeRun) -> Option<u64> {
+        if matches!(event, Event::StopAsked) {
+            return self.stops.ask(run.tick(), run.loop_ms()).then_some(0);
+        }
+        if let Event::StopAnswered { ok } = *event {
+            return self.stops.answer(ok);
+        }
+        Some(0)
     }
 
     /// This came.

@@ -3,7 +3,7 @@ use Rattle.std.specs.Prelude.{ℕ, ◌+◌, ◌-◌, ◌^◌, ◌==◌, ◌&&◌
 use Rattle.qn_news.specs.Losses.{differ}
 use Rattle.qn_news.specs.declared.device.DeviceNews.{DeviceNews}
 use Rattle.qn_news.specs.declared.entered.Entered.{Entered}
-use Rattle.qn_news.specs.declared.entered.Entered.TheVariants.{Header, Mail, View, Device, Nothing}
+use Rattle.qn_news.specs.declared.entered.Entered.TheVariants.{Header, Mail, View, Device, Stopped, Nothing}
 use Rattle.qn_shown.specs.declared.words.DeviceAnswer.{DeviceAnswer}
 use Rattle.qn_shown.specs.declared.words.DeviceAnswer.TheVariants.{Yes, No, Silent}
 
@@ -52,6 +52,7 @@ answer_taken news (Header msgwait) view = None
 answer_taken news (Mail seen) view = None
 answer_taken news View view = None
 answer_taken news (Device agrees) view = answer_told news agrees view
+answer_taken news (Stopped ok) view = None
 answer_taken news Nothing view = None
 
 -- another view has no answer yet
@@ -60,6 +61,7 @@ after_taking news (Header msgwait) tick view = news
 after_taking news (Mail seen) tick view = news
 after_taking news View tick view = record news { answer = None }
 after_taking news (Device agrees) tick view = after_hearing news agrees tick view
+after_taking news (Stopped ok) tick view = news
 after_taking news Nothing tick view = news
 
 -- for how long no answer came, since the first poll where none did

@@ -3,7 +3,7 @@ use Rattle.qn_model.specs.declared.entries.What.{What}
 use Rattle.qn_model.specs.declared.entries.What.TheVariants as what
 use Rattle.qn_model.specs.declared.seen.HeaderSeen.TheVariants as header
 use Rattle.qn_news.specs.declared.entered.Entered.{Entered}
-use Rattle.qn_news.specs.declared.entered.Entered.TheVariants.{Header, Mail, View, Device, Nothing}
+use Rattle.qn_news.specs.declared.entered.Entered.TheVariants.{Header, Mail, View, Device, Stopped, Nothing}
 
 abbrev pub entered : What → Entered
 entered what.Begin = Nothing
@@ -22,6 +22,6 @@ entered (what.Ask ask) = Nothing
 entered (what.Tell tell) = Nothing
 entered (what.Device agrees) = Device agrees
 entered what.Tick = Nothing
-entered (what.Stopped ok) = Nothing
+entered (what.Stopped ok) = Stopped ok
 entered what.Leave = Nothing
 entered (what.Closed ok) = Nothing

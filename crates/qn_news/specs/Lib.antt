@@ -3,4 +3,5 @@ pub mod Entries
 pub mod Hearing
 pub mod Losses
 pub mod Seldoms
+pub mod Stops
 pub mod Tellings

@@ -88,7 +88,7 @@ impl DeviceNews {
                 self.answer = None;
                 None
             }
-            Entered::Header(_) | Entered::Mail(_) | Entered::Nothing => None,
+            Entered::Header(_) | Entered::Mail(_) | Entered::Stopped(_) | Entered::Nothing => None,
         }
     }
 

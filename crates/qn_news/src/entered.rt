@@ -11,6 +11,8 @@ pub enum Entered {
     View,
     /// The answer of the arbiter.
     Device(bool),
+    /// The answer of a stop: whether it succeeded.
+    Stopped(bool),
     Nothing,
 }
 
@@ -27,6 +29,7 @@ impl Entered {
             What::MailChecked(seen) | What::MailRead(seen) => Entered::Mail(seen),
             What::View(_) => Entered::View,
             What::Device(agrees) => Entered::Device(agrees),
+            What::Stopped(ok) => Entered::Stopped(ok),
             What::Begin
             | What::BeginClean
             | What::Header(HeaderSeen::NotImage | HeaderSeen::Failed)
@@ -37,7 +40,6 @@ impl Entered {
             | What::Ask(_)
             | What::Tell(_)
             | What::Tick
-            | What::Stopped(_)
             | What::Leave
             | What::Closed(_) => Entered::Nothing,
         }

@@ -59,7 +59,7 @@ level_of (event.Licence of) = Information
 level_of event.StartAsked = Notice
 level_of event.StopAsked = Notice
 level_of (event.StartAnswered ok) = if ok then Notice else Error
-level_of (event.StopAnswered ok) = if ok then Notice else Error
+level_of (event.StopAnswered ok) = if ok then Notice else Warning
 level_of (event.DisarmAnswered ok) = if ok then Notice else Error
 level_of event.HoldWon = Notice
 level_of event.HoldLost = Notice
@@ -98,6 +98,10 @@ named_answer_words (Some id) answer = number (codes "candidate") id ∷ answer_w
 abbrev pub cause_text : HaltKind → List ℕ
 cause_text (Deadly message) = message_name message
 cause_text (Boot cause) = codes "boot-" ++ decimal (cause_number cause)
+
+-- how many stops failed before one, one after the other, where one did
+abbrev pub failed_words : ℕ → List Word
+failed_words failed = if nat_lt 0 failed then number (codes "count") failed ∷ [] else []
 
 -- the words of an event of one of these nodes, where msgwait is so long in milliseconds
 abbrev pub words_of : List NodeEntry → ℕ → Event → List Word

@@ -3,7 +3,7 @@ ghost use Rattle.std.specs.Prelude.{◌≡◌, ◌≤◌, ◌+◌, ◌++◌, ◌
 ghost use Rattle.qn_model.specs.Settings.{ids};
 ghost use Rattle.qn_names.specs.MemberWords.{member_word};
 ghost use Rattle.qn_names.specs.WhyTexts.{why_text};
-ghost use Rattle.qn_told.specs.Events.{answer_words, candidate_of, cause_text, event_line, level_of, name_of, named_answer_words, words_of};
+ghost use Rattle.qn_told.specs.Events.{answer_words, candidate_of, cause_text, event_line, failed_words, level_of, name_of, named_answer_words, words_of};
 ghost use Rattle.qn_event.specs.WholeLines.{text, with_words};
 
 use arrayvec::ArrayVec;
@@ -102,6 +102,17 @@ fn add_named_answer(line: &mut EventLine, candidate: Option<u64>, answer: &Answe
     }
 }
 
+/// Adds how many stops failed before the one that the line tells of, where one did.
+pub fn add_failed(line: &mut EventLine, failed: u64)
+    ensures head { line.new.head ≡ line.old.head }
+    ensures level { line.new.level ≡ line.old.level }
+    ensures words { line.new.words ≡ with_words line.old.words (failed_words failed) }
+{
+    if failed > 0 {
+        line.number(b"count", failed);
+    }
+}
+
 /// The name of an event.
 fn name_of(event: &Event) -> EventName
     ensures { result ≡ name_of event.now }
@@ -145,8 +156,12 @@ fn level_of(event: &Event) -> Level
         Event::QuorumLost { .. } | Event::FenceAsked { .. } => Level::Warning,
         Event::Why { .. } | Event::Licence { .. } => Level::Information,
         Event::FenceWritten { ok, .. } => if ok { Level::Warning } else { Level::Error },
-        Event::StartAnswered { ok } | Event::StopAnswered { ok } | Event::DisarmAnswered { ok } =>
-            if ok { Level::Notice } else { Level::Error },
+        Event::StartAnswered { ok } | Event::DisarmAnswered { ok } => if ok {
+            Level::Notice
+        } else {
+            Level::Error
+        },
+        Event::StopAnswered { ok } => if ok { Level::Notice } else { Level::Warning },
         Event::Halt { .. } => Level::Error,
     }
 }

@@ -7,7 +7,7 @@
 mod events;
 mod remarks;
 
-pub use events::event_line;
+pub use events::{add_failed, event_line};
 pub use remarks::{
     device_answered, device_silent, ended, feeds_failed, image_back, image_lost, mail_damaged,
     mail_failed, mail_told, network_back, network_lost, packets_refused, peer_lost, peer_seen,
