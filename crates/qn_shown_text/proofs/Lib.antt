@@ -1,4 +1,6 @@
+mod Costs
 mod EntryTexts
 mod Printing
+mod Rooms
 mod StatusTexts
 mod Wholeness

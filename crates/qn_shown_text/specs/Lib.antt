@@ -1,3 +1,4 @@
 pub mod FixedTexts
 pub mod JsonTexts
+pub mod Rooms
 pub mod StatusTexts

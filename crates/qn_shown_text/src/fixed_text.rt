@@ -5,8 +5,7 @@ ghost use Rattle.json.specs.Print.{escape_letter};
 
 use arrayvec::ArrayVec;
 
-/// The most bytes of a text: the status of 32 nodes whose ids have ten digits and whose names have 63 bytes, each behind a backslash,
-/// and of which each told something, is shorter.
+/// The most bytes of a text: the status of a node of at most 32, whose names have at most 63 bytes, is shorter where no byte of them is escaped.
 pub const ROOM: usize = 14_336;
 
 /// A text while it is put together.

@@ -22,13 +22,16 @@ impl Model for ShownText {
 }
 
 impl ShownText {
-    ghost use Rattle.std.specs.Prelude.{◌≡◌, ◌<◌, IfNone, IfSome, length};
+    ghost use Rattle.std.specs.Prelude.{◌≡◌, ◌<◌, IfNone, IfSome, IsSome, length};
+    ghost use Rattle.qn_shown_text.specs.Rooms.{IsUsual};
     ghost use Rattle.qn_shown_text.specs.StatusTexts.{status_text};
 
-    /// The text of what a node shows; None where it has no room.
+    /// The text of what a node shows; None where it has no room. It has where the node is one of at most 32, whose names have at most 63 bytes, and no
+    /// quote, backslash or control.
     pub fn of(shown: &Shown) -> Option<ShownText>
         ensures text { IfSome result (λ text. text ≡ status_text shown.now) }
         ensures room { IfNone result (14336 < length (status_text shown.now)) }
+        ensures enough { IsUsual shown.now → IsSome result }
     {
         let mut json = JsonText::new();
         write_shown(&mut json, shown);
