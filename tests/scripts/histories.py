@@ -30,6 +30,7 @@ TOLD = [
     ("stop", "ok=yes", None),
     ("start", "ok=no", "node 3 failed to start the resource"),
     ("stop", "ok=no", "node 3 failed to stop the resource"),
+    ("stop", "ok=yes count=58", "node 3 stopped the resource after 58 stops that failed"),
     ("mail", "message=exit by=operator", "node 3 read exit from operator"),
     ("mail", "message=reset by=2 by-incarnation=9", "node 3 read reset from 2 (incarnation 9)"),
     ("halt", "cause=boot-4", "node 3 ended: boot-4"),

@@ -106,10 +106,11 @@ fn sentence_of(line: &JournalLine<'_>) -> Option<&'static str> {
     None
 }
 
-/// What may be told of an event. The end of a node that halted is told by its halt, and a start or a stop by what follows it, unless it failed.
+/// What may be told of an event. The end of a node that halted is told by its halt, and a start or a stop by what follows it, unless it failed
+/// or others failed before it.
 fn sentences_of(line: &JournalLine<'_>) -> &'static [&'static str] {
     match EventName::of_word(line.event) {
-        Some(EventName::Start | EventName::Stop) if !has_failed(line) => &[],
+        Some(EventName::Start | EventName::Stop) if is_told_by_next(line) => &[],
         Some(EventName::End) if is_end_of_halt(line) => &[],
         Some(name) => sentences(name),
         None => &[],
@@ -148,7 +149,10 @@ fn sentences(name: EventName) -> &'static [&'static str] {
         EventName::HoldWon => &["node {node} holds the resource"],
         EventName::HoldLost => &["node {node} holds it no more"],
         EventName::Start => &["node {node} failed to start the resource"],
-        EventName::Stop => &["node {node} failed to stop the resource"],
+        EventName::Stop => &[
+            "node {node} stopped the resource after {count} stops that failed",
+            "node {node} failed to stop the resource",
+        ],
         EventName::Mail => &[
             "node {node} read {message} from {by} (incarnation {by-incarnation})",
             "node {node} read {message} from {by}",
@@ -178,8 +182,9 @@ fn sentences(name: EventName) -> &'static [&'static str] {
     }
 }
 
-fn has_failed(line: &JournalLine<'_>) -> bool {
-    line.word("ok") == Some("no")
+/// Whether a start or a stop succeeded, and none failed before it.
+fn is_told_by_next(line: &JournalLine<'_>) -> bool {
+    line.word("ok") != Some("no") && line.word("count").is_none()
 }
 
 fn is_end_of_halt(line: &JournalLine<'_>) -> bool {
