@@ -85,7 +85,8 @@ scene_acceptance() {
     status=${PIPESTATUS[0]}
     cat "$room/page.md"
     # panic, disk, server and arbiter have nothing here to be played on
-    [ "$status" = 0 ] || { [ "$status" = 77 ] && ! grep -q '| not judged |' "$room/page.md"; }
+    [ "$status" != 77 ] || grep -q '| not judged |' "$room/page.md" || status=0
+    return "$status"
 }
 
 # A block server that is killed ends nothing, and one that is gone ends the owner alone.
