@@ -61,17 +61,23 @@ bit_small (suc zero) below = omega arith
 bit_small (suc (suc zero)) below = omega arith
 bit_small (suc (suc (suc rank))) below = absurd (omega arith)
 
+-- the clocks of a pass, one after the other
+pub clocks_are : (first second third : Bool) (dt state : ℕ) (empty : List (Rank × ℕ)) (one two three : DrawnClocks) → empty ≡ []
+    → one ≡ with_clock dt 0 first (record { clocks = empty; state = state }) → two ≡ with_clock dt 1 second one → three ≡ with_clock dt 2 third two
+    → three ≡ clocks_of dt first second third state
+unfolding clocks_of
+clocks_are first second third dt state empty one two three empty_is one_is two_is three_is =
+    let start : one ≡ with_clock dt 0 first (record { clocks = []; state = state }) =
+    one_is ∙ ap (λ c. with_clock dt 0 first (record { clocks = c; state = state })) empty_is in
+    three_is ∙ ap (λ k. with_clock dt 2 third k) (two_is ∙ ap (λ k. with_clock dt 1 second k) start)
+
 -- a pass, by its draws
-pub pass_is : (first second third : Bool) (old state value dt : ℕ) (empty : List (Rank × ℕ)) (one two three : DrawnClocks) → state ≡ next_state old
-    → value ≡ draw_at (next_state old) → dt ≡ 1 + value % 400 → empty ≡ [] → one ≡ with_clock dt 0 first (record { clocks = empty; state = state })
-    → two ≡ with_clock dt 1 second one → three ≡ with_clock dt 2 third two → pass_with dt three ≡ pass_at first second third (next_state old)
-unfolding pass_at clocks_of
-pass_is first second third old state value dt empty one two three state_is value_is dt_is empty_is one_is two_is three_is =
-    let start : one ≡ with_clock dt 0 first (record { clocks = []; state = next_state old }) =
-    one_is ∙ ap₂ (λ c x. with_clock dt 0 first (record { clocks = c; state = x })) empty_is state_is in
-    let whole : three ≡ clocks_of dt first second third (next_state old) =
-    three_is ∙ ap (λ k. with_clock dt 2 third k) (two_is ∙ ap (λ k. with_clock dt 1 second k) start) in
-    ap (λ k. pass_with dt k) whole ∙ ap (λ t. pass_with t (clocks_of t first second third (next_state old))) (dt_is ∙ ap (λ v. 1 + v % 400) value_is)
+pub pass_is : (first second third : Bool) (old state value dt : ℕ) (drawn : DrawnClocks) → state ≡ next_state old → value ≡ draw_at (next_state old)
+    → dt ≡ 1 + value % 400 → drawn ≡ clocks_of dt first second third state → pass_with dt drawn ≡ pass_at first second third (next_state old)
+unfolding pass_at
+pass_is first second third old state value dt drawn state_is value_is dt_is drawn_is =
+    ap (λ k. pass_with dt k) (drawn_is ∙ ap (λ x. clocks_of dt first second third x) state_is)
+    ∙ ap (λ t. pass_with t (clocks_of t first second third (next_state old))) (dt_is ∙ ap (λ v. 1 + v % 400) value_is)
 
 record Few (members : ℕ) : Type 0 where
   some : 0 < members

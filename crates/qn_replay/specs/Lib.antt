@@ -4,6 +4,7 @@ pub mod BesideReplay
 pub mod BesideTrace
 pub mod Draws
 pub mod Endings
+pub mod EventPlaces
 pub mod EventWorlds
 pub mod Generator
 pub mod Heads

@@ -5,6 +5,7 @@ ghost use Rattle.qn_model.specs.Rules.{is_well_formed};
 ghost use Rattle.qn_world.specs.Standing.{WorldFor};
 ghost use Rattle.qn_replay.specs.Generator.{incident_of, is_feed_due, receiver, soak_settings, view_of};
 
+use crate::event_places::EventPlaces;
 use qn_base::{Mask, Rank, View};
 use qn_model::Event;
 use qn_world::{Pending, World};
@@ -34,7 +35,7 @@ pub(crate) fn is_feed_due(now: u64, pending: Pending) -> bool
 
 /// Writes a view of these members, whose id is their bits, over an event.
 #[tactic(auto, unfolding(qn_model::specs::Rules::is_well_formed))]
-pub(crate) fn write_view(rank: Rank, members: u32, into: &mut Event)
+pub(crate) fn write_view(rank: Rank, members: u32, into: &mut EventPlaces)
     requires rank { rank.0 < 3 }
     requires some { 0 < members }
     requires configured { members ≤ 7 }
@@ -45,7 +46,7 @@ pub(crate) fn write_view(rank: Rank, members: u32, into: &mut Event)
         id: u64::from(members),
         members: Mask(members),
     };
-    *into = Event::View(rank, view);
+    into.set_view(rank, view);
 }
 
 /// The bit of a rank.
@@ -59,18 +60,18 @@ pub(crate) fn bit_of(rank: Rank) -> u32
 
 /// Writes the incident of a number below 8 over an event.
 #[tactic(auto, unfolding(crate::specs::Generator::incident_of, qn_model::specs::Rules::is_well_formed))]
-pub(crate) fn write_incident(number: u64, rank: Rank, into: &mut Event)
+pub(crate) fn write_incident(number: u64, rank: Rank, into: &mut EventPlaces)
     requires { rank.0 < 3 }
     ensures event { into.new ≡ incident_of number rank }
     ensures formed { is_well_formed soak_settings into.new ≡ true }
 {
     if number == 0 {
-        *into = Event::Crash(rank);
+        into.set_other(Event::Crash(rank));
     } else if number == 1 {
-        *into = Event::Leave(rank);
+        into.set_other(Event::Leave(rank));
     } else if number == 2 {
-        *into = Event::Late(rank, 1);
+        into.set_other(Event::Late(rank, 1));
     } else {
-        *into = Event::Fail(rank);
+        into.set_other(Event::Fail(rank));
     }
 }

@@ -1,6 +1,7 @@
 //! Draws the events of a soak from a seed, each allowed in its turn.
 use crate::choice::Choice;
 use crate::drawn_events::{bit_of, is_feed_due, receiver, write_incident, write_view};
+use crate::event_places::EventPlaces;
 use crate::in_place::keep_or_replace;
 use qn_base::Rank;
 use qn_model::{Clocks, Event};
@@ -22,14 +23,14 @@ impl Model for Gen {
 }
 
 impl Gen {
-    ghost use Rattle.std.specs.Prelude.{◌≡◌, ◌<◌, ◌≤◌, ◌+◌, true, None, length};
+    ghost use Rattle.std.specs.Prelude.{◌≡◌, ◌<◌, ◌≤◌, ◌+◌, [], true, None, length};
     ghost use Rattle.qn_base.specs.declared.limits.TheConstants.{LATEST_TIME};
     ghost use Rattle.qn_model.specs.World.{World as WorldBefore};
     ghost use Rattle.qn_model.specs.Moments.{packets};
     ghost use Rattle.qn_model.specs.Rules.{is_well_formed, refusal};
     ghost use Rattle.qn_world.specs.Standing.{WorldFor};
     ghost use Rattle.qn_replay.specs.Draws.{draw_at, next_state};
-    ghost use Rattle.qn_replay.specs.Generator.{candidate, chosen_event, delivery, next_event, next_step, pass_at, soak_settings, soak_timing, view_at, with_clock};
+    ghost use Rattle.qn_replay.specs.Generator.{candidate, chosen_event, clocks_of, delivery, next_event, next_step, pass_at, soak_settings, soak_timing, view_at, with_clock};
 
     /// A generator whose state begins as the seed.
     pub fn new(seed: u64) -> Gen
@@ -49,13 +50,13 @@ impl Gen {
         ensures allowed { (d : WorldBefore) → WorldFor world.now d
             → refusal soak_settings soak_timing result d ≡ None }
     {
-        let mut event = Event::Tick(Rank(0));
-        self.next_into(world, &mut event);
-        event
+        let mut places = EventPlaces::new();
+        self.next_into(world, &mut places);
+        places.into_event()
     }
 
-    /// The same as `next`, with the event written over one that is there.
-    pub fn next_into(&mut self, world: &World, into: &mut Event)
+    /// The same as `next`, with the event written over one of its kind.
+    pub fn next_into(&mut self, world: &World, into: &mut EventPlaces)
         requires settings { world.now.settings ≡ soak_settings }
         requires timing { world.now.timing ≡ soak_timing }
         requires early { world.now.time ≤ LATEST_TIME }
@@ -70,7 +71,7 @@ impl Gen {
     }
 
     /// The candidate for the next event.
-    fn candidate(&mut self, world: &World, into: &mut Event)
+    fn candidate(&mut self, world: &World, into: &mut EventPlaces)
         requires settings { world.now.settings ≡ soak_settings }
         ensures drawn { (d : WorldBefore) → WorldFor world.now d
             → record { event = into.new; state = self.new } ≡ candidate d self.old }
@@ -82,7 +83,7 @@ impl Gen {
     }
 
     /// What a choice comes to.
-    fn chosen_event(&mut self, world: &World, choice: Choice, rank: Rank, into: &mut Event)
+    fn chosen_event(&mut self, world: &World, choice: Choice, rank: Rank, into: &mut EventPlaces)
         requires settings { world.now.settings ≡ soak_settings }
         requires rank { rank.0 < 3 }
         ensures drawn { (d : WorldBefore) → WorldFor world.now d
@@ -94,14 +95,14 @@ impl Gen {
             Choice::Pass => self.pass_of(world, into),
             Choice::View => self.view(rank, into),
             Choice::Delivery => self.delivery(world, rank, into),
-            Choice::Device => *into = Event::Device(rank, true),
+            Choice::Device => into.set_device(rank, true),
             Choice::Incident => write_incident(self.draw() % 8, rank, into),
         }
     }
 
     /// The next step of a node.
     #[tactic(auto, unfolding(crate::specs::Generator::next_step, qn_model::specs::Rules::is_well_formed))]
-    fn next_step(&mut self, pending: Pending, now: u64, rank: Rank, into: &mut Event)
+    fn next_step(&mut self, pending: Pending, now: u64, rank: Rank, into: &mut EventPlaces)
         requires rank { rank.0 < 3 }
         ensures drawn { record { event = into.new; state = self.new }
             ≡ next_step pending now rank self.old }
@@ -109,22 +110,22 @@ impl Gen {
     {
         if !pending.running {
             let base = self.draw() % 1_000_000;
-            *into = Event::Boot(rank, base);
+            into.set_other(Event::Boot(rank, base));
         } else if is_feed_due(now, pending) {
-            *into = Event::Feed(rank);
+            into.set_feed(rank);
         } else if pending.out && !pending.landed {
-            *into = Event::Land(rank);
+            into.set_land(rank);
         } else if pending.landed {
-            *into = Event::Done(rank);
+            into.set_done(rank);
         } else if pending.stop_due {
-            *into = Event::Stopped(rank);
+            into.set_other(Event::Stopped(rank));
         } else {
-            *into = Event::Tick(rank);
+            into.set_tick(rank);
         }
     }
 
     /// Time passes for the nodes of a world.
-    fn pass_of(&mut self, world: &World, into: &mut Event)
+    fn pass_of(&mut self, world: &World, into: &mut EventPlaces)
         requires { world.now.settings ≡ soak_settings }
         ensures drawn { (d : WorldBefore) → WorldFor world.now d
             → record { event = into.new; state = self.new }
@@ -134,21 +135,37 @@ impl Gen {
         let first = world.pending(Rank(0));
         let second = world.pending(Rank(1));
         let third = world.pending(Rank(2));
-        self.pass(first.running, second.running, third.running, into);
+        into.set_pass(self, first.running, second.running, third.running);
     }
 
-    /// A pass, with a clock for each of the nodes that run.
-    fn pass(&mut self, first: bool, second: bool, third: bool, into: &mut Event)
+    /// A pass, with a clock for each of the nodes that run, over an event.
+    pub(crate) fn pass(&mut self, first: bool, second: bool, third: bool, into: &mut Event)
         ensures drawn { record { event = into.new; state = self.new }
             ≡ pass_at first second third (next_state self.old) }
         ensures formed { is_well_formed soak_settings into.new ≡ true }
     {
         let dt = 1 + self.draw() % 400;
-        let mut clocks = Clocks::new();
-        self.add_clock(&mut clocks, dt, Rank(0), first);
-        self.add_clock(&mut clocks, dt, Rank(1), second);
-        self.add_clock(&mut clocks, dt, Rank(2), third);
-        *into = Event::Pass { dt, clocks };
+        if let Event::Pass { dt: length, clocks } = into {
+            *length = dt;
+            clocks.clear();
+            self.add_clocks(clocks, dt, first, second, third);
+        } else {
+            let mut clocks = Clocks::new();
+            self.add_clocks(&mut clocks, dt, first, second, third);
+            *into = Event::Pass { dt, clocks };
+        }
+    }
+
+    /// Adds a clock for each of the nodes that run.
+    fn add_clocks(&mut self, clocks: &mut Clocks, dt: u64, first: bool, second: bool, third: bool)
+        requires none { clocks.old ≡ [] }
+        requires short { dt ≤ 400 }
+        ensures { record { clocks = clocks.new; state = self.new }
+            ≡ clocks_of dt first second third self.old }
+    {
+        self.add_clock(clocks, dt, Rank(0), first);
+        self.add_clock(clocks, dt, Rank(1), second);
+        self.add_clock(clocks, dt, Rank(2), third);
     }
 
     /// Adds the clock of a node where it runs.
@@ -168,7 +185,7 @@ impl Gen {
 
     /// A view: of all nodes, of this one alone, or of some nodes and this one.
     #[tactic(auto, unfolding(crate::specs::Generator::view_at))]
-    fn view(&mut self, rank: Rank, into: &mut Event)
+    fn view(&mut self, rank: Rank, into: &mut EventPlaces)
         requires { rank.0 < 3 }
         ensures drawn { record { event = into.new; state = self.new }
             ≡ view_at rank (next_state self.old) }
@@ -187,7 +204,7 @@ impl Gen {
 
     /// One of the last eight packets reaches its receiver, where one was sent.
     #[tactic(auto, unfolding(crate::specs::Generator::delivery, qn_model::specs::Rules::is_well_formed))]
-    fn delivery(&mut self, world: &World, rank: Rank, into: &mut Event)
+    fn delivery(&mut self, world: &World, rank: Rank, into: &mut EventPlaces)
         requires settings { world.now.settings ≡ soak_settings }
         requires rank { rank.0 < 3 }
         ensures drawn { (d : WorldBefore) → WorldFor world.now d
@@ -197,12 +214,12 @@ impl Gen {
     {
         let count = world.packets();
         if count == 0 {
-            *into = Event::Tick(rank);
+            into.set_tick(rank);
             return;
         }
         let number = count - 1 - self.draw() % count.min(8);
         let to = receiver(world, number, rank);
-        *into = Event::Deliver(to, number);
+        into.set_deliver(to, number);
     }
 
     /// One more draw: the upper 31 bits of the new state.

@@ -6,13 +6,14 @@ ghost use Rattle.qn_model.specs.Rules.{is_well_formed, refusal};
 ghost use Rattle.qn_world.specs.Standing.{WorldFor};
 ghost use Rattle.qn_replay.specs.Generator.{forced, in_place, is_overdue, may_happen, moment, overdue, soak_settings, soak_timing};
 
+use crate::event_places::EventPlaces;
 use qn_base::Rank;
-use qn_model::{Clocks, Event};
+use qn_model::Event;
 use qn_world::{Pending, World};
 
 /// The candidate stays where it is allowed; else one millisecond is written over it, and where not even that is
 /// allowed the crash of a node whose watchdog is over.
-pub(crate) fn keep_or_replace(event: &mut Event, world: &World)
+pub(crate) fn keep_or_replace(event: &mut EventPlaces, world: &World)
     requires settings { world.now.settings ≡ soak_settings }
     requires timing { world.now.timing ≡ soak_timing }
     requires early { world.now.time ≤ LATEST_TIME }
@@ -22,14 +23,14 @@ pub(crate) fn keep_or_replace(event: &mut Event, world: &World)
     ensures allowed { (d : WorldBefore) → WorldFor world.now d
         → refusal soak_settings soak_timing event.new d ≡ None }
 {
-    match world.allowed(event) {
+    match world.allowed(event.event()) {
         Ok(()) => {}
         Err(_) => write_moment_or_forced(world, event),
     }
 }
 
 /// Writes one millisecond, or the crash of a node whose watchdog is over, over an event.
-fn write_moment_or_forced(world: &World, into: &mut Event)
+fn write_moment_or_forced(world: &World, into: &mut EventPlaces)
     requires settings { world.now.settings ≡ soak_settings }
     requires timing { world.now.timing ≡ soak_timing }
     requires early { world.now.time ≤ LATEST_TIME }
@@ -40,7 +41,7 @@ fn write_moment_or_forced(world: &World, into: &mut Event)
         → refusal soak_settings soak_timing into.new d ≡ None }
 {
     write_moment(into);
-    match world.allowed(into) {
+    match world.allowed(into.event()) {
         Ok(()) => {}
         Err(_) => write_forced(world, into),
     }
@@ -48,26 +49,23 @@ fn write_moment_or_forced(world: &World, into: &mut Event)
 
 /// Writes one millisecond, on all clocks, over an event.
 #[tactic(auto, unfolding(qn_model::specs::Rules::is_well_formed))]
-fn write_moment(into: &mut Event)
+fn write_moment(into: &mut EventPlaces)
     ensures event { into.new ≡ moment }
     ensures formed { is_well_formed soak_settings into.new ≡ true }
 {
-    *into = Event::Pass {
-        dt: 1,
-        clocks: Clocks::new(),
-    };
+    into.set_moment();
 }
 
 /// Writes the crash of the least node whose watchdog is over in one more millisecond over an event.
 #[tactic(auto, unfolding(qn_model::specs::Rules::is_well_formed))]
-fn write_forced(world: &World, into: &mut Event)
+fn write_forced(world: &World, into: &mut EventPlaces)
     requires settings { world.now.settings ≡ soak_settings }
     requires early { world.now.time ≤ LATEST_TIME }
     ensures drawn { (d : WorldBefore) → WorldFor world.now d → into.new ≡ forced d }
     ensures formed { is_well_formed soak_settings into.new ≡ true }
 {
     match overdue(world) {
-        Some(rank) => *into = Event::Crash(rank),
+        Some(rank) => into.set_other(Event::Crash(rank)),
         None => write_moment(into),
     }
 }

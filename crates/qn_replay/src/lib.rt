@@ -17,6 +17,7 @@ mod arbiter_head;
 mod beside_arbiter;
 mod choice;
 mod drawn_events;
+mod event_places;
 mod generator;
 mod in_place;
 mod last;
@@ -32,6 +33,7 @@ mod takes_events;
 mod tally;
 mod three_images;
 
+pub use event_places::EventPlaces;
 pub use generator::Gen;
 pub use last::last_world;
 pub use laws::{law_arbiter_ending, law_arbiter_traces, law_triple_ending, law_triple_one_holder};

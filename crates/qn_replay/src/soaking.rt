@@ -6,12 +6,13 @@ ghost use Rattle.qn_io.specs.Outside.{HasRisen};
 ghost use Rattle.qn_io.specs.Writes.{AppendsFront};
 ghost use Rattle.qn_replay.specs.Soak.{IsSoakEnd, soak_text, soaked, summary};
 
+use crate::event_places::EventPlaces;
 use crate::generator::Gen;
 use crate::soak_settings::{soak_settings, soak_timing};
 use crate::tally::Tally;
-use qn_base::{Failed, NoMemory, Rank, ShortText};
+use qn_base::{Failed, NoMemory, ShortText};
 use qn_io::{Sink, put_all};
-use qn_model::{Event, Outs};
+use qn_model::Outs;
 use qn_sched::ReplayEnd;
 use qn_world::World;
 use std::alloc::Global;
@@ -53,12 +54,13 @@ fn tally_of(alloc: Global, seed: u64, events: u64) -> Result<Tally, NoMemory>
     let mut world = World::new(alloc, soak_settings(), soak_timing())?;
     let mut generator = Gen::new(seed);
     let mut tally = Tally::new();
-    let mut event = Event::Tick(Rank(0));
+    let mut places = EventPlaces::new();
     let mut outs = Outs::new();
     'events: for number in 0..events {
-        generator.next_into(&world, &mut event);
-        world.apply_allowed(&event, &mut outs)?;
-        tally.add(&event, &outs, &world);
+        generator.next_into(&world, &mut places);
+        let event = places.event();
+        world.apply_allowed(event, &mut outs)?;
+        tally.add(event, &outs, &world);
     }
     Ok(tally)
 }

@@ -76,6 +76,9 @@ impl Tally {
     {
         self.boots += u64::from(is_boot(event));
         self.crashes += u64::from(is_crash(event));
+        if outs.is_empty() {
+            return;
+        }
         self.resets += count_resets(outs);
         self.starts += count_starts(outs);
         self.stops += count_stops(outs);

@@ -1,4 +1,4 @@
-use Rattle.std.proofs.Common.{◌≡◌, ℕ, true, false, ◌≤◌, refl, sym, ap, ap₂, subst, ◌∙◌, arith}
+use Rattle.std.proofs.Common.{◌≡◌, ℕ, true, false, None, ◌≤◌, refl, sym, ap, ap₂, subst, ◌∙◌, arith}
 use Rattle.std.specs.Prelude.{IsTrue, count_ones}
 use Rattle.qn_base.specs.declared.ids.Mask.{Mask}
 use Rattle.qn_base.specs.Members.{is_member}
@@ -6,7 +6,7 @@ use Rattle.qn_model.specs.Log.{has_start}
 use Rattle.qn_model.specs.Moments.{time}
 use Rattle.qn_model.specs.Rules.{is_well_formed, refusal}
 use Rattle.qn_model.specs.Steps.{holders, report, step}
-use Rattle.qn_replay.specs.Generator.{next_event, undrawn}
+use Rattle.qn_replay.specs.Generator.{next_event, soak_settings, soak_timing, undrawn}
 use Rattle.qn_replay.specs.Soak.{soaked}
 use Rattle.qn_playback.specs.Times.{time-step}
 use Rattle.qn_replay.proofs.SoakHolders.{either, few_more, none_first}
@@ -34,17 +34,20 @@ events-init c =
 pub apply_allowed-requires-clause-allowed : goal.apply_allowed-requires-clause-allowed
 apply_allowed-requires-clause-allowed c = λ d stands.
     let before = c.events.invariant in
-    ap₂ (λ s t. refusal s t c.next_into.new.into d) before.settings before.timing ∙ c.next_into.ensures.allowed d stands
+    ap₂ (λ s t. refusal s t c.event-event.result.now d) before.settings before.timing ∙ ap (λ e. refusal soak_settings soak_timing e d) c.event-event.ensures
+    ∙ c.next_into.ensures.allowed d stands
 
 pub events-preserved : goal.events-preserved
 events-preserved c =
     let before = c.events.invariant in
     let made = c.in_ok-apply_allowed.ensures in
     let d = (soaked c.args.seed c.events.number).world in
-    let event = c.next_into.new.into in
+    let event = c.event-event.result.now in
     let after = step c.events.world.settings c.events.world.timing event d in
     let is : undrawn event c.next_into.new.self ≡ next_event d (soaked c.args.seed c.events.number).state =
-    c.next_into.ensures.drawn d before.stands ∙ ap (λ x. next_event d x) before.state in
+    ap (λ e. undrawn e c.next_into.new.self) c.event-event.ensures ∙ c.next_into.ensures.drawn d before.stands ∙ ap (λ x. next_event d x) before.state in
+    let allowed : refusal soak_settings soak_timing event d ≡ None =
+    ap (λ e. refusal soak_settings soak_timing e d) c.event-event.ensures ∙ c.next_into.ensures.allowed d before.stands in
     let stood = made.stands d before.stands in
     let said = report c.events.world.settings event after in
     let outs : said.outs ≡ c.apply_allowed.new.outs = reported_outs c.events.world.settings event after ∙ sym (made.gives d before.stands) in
@@ -53,14 +56,15 @@ events-preserved c =
     let quiet : has_start c.apply_allowed.new.outs ≡ false → count_ones said.holders.0 ≤ c.events.tally.most_holders = λ none.
     subst (λ (mask : Mask). count_ones mask.0 ≤ c.events.tally.most_holders) (sym (reported_holders c.events.world.settings event after))
     (few_more c.events.world.timing event d c.events.tally.most_holders before.settings
-    (ap₂ (λ s t. refusal s t event d) before.settings before.timing ∙ c.next_into.ensures.allowed d before.stands)
+    (ap₂ (λ s t. refusal s t event d) before.settings before.timing ∙ allowed)
     (ap has_start (sym (made.gives d before.stands)) ∙ none) before.counted) in
     let tallied_is = c.add.ensures.tally after said stood outs held quiet in
     let few : count_ones said.holders.0 ≤ 1 = either (has_start c.apply_allowed.new.outs) (count_ones said.holders.0 ≤ 1)
     (λ started. few_holders c.events.world.timing event said d before.settings refl
     (subst (λ (mask : Mask). (i j : ℕ) → IsTrue (is_member mask i) → IsTrue (is_member mask j) → i ≡ j) (sym held) (c.add.ensures.one_holder started after stood)))
     (λ none. let below = quiet none in let most = before.one in omega (arith, below, most)) in
-    let formed : is_well_formed c.events.world.settings event ≡ true = ap (λ s. is_well_formed s event) before.settings ∙ c.next_into.ensures.formed in
+    let formed : is_well_formed c.events.world.settings event ≡ true = ap (λ s. is_well_formed s event) before.settings
+    ∙ ap (λ e. is_well_formed soak_settings e) c.event-event.ensures ∙ c.next_into.ensures.formed in
     let then = before.stands.cluster.times in
     let now = stood.cluster.times in
     let later = time-step c.events.world.settings c.events.world.timing event d formed in

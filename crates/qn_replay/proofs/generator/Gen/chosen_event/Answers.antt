@@ -1,4 +1,6 @@
-use Rattle.std.proofs.Common.{◌∙◌}
+use Rattle.std.proofs.Common.{ap, ◌∙◌}
+use Rattle.qn_model.specs.Rules.{is_well_formed}
+use Rattle.qn_replay.specs.Generator.{soak_settings, undrawn}
 use Rattle.qn_replay.proofs.Choices.{step_drawn, pass_chosen, view_drawn, delivery_drawn, device_drawn, incident_drawn, device_formed}
 use Rattle.qn_replay.proofs.generator.Gen.chosen_event.Goals as goal
 
@@ -20,10 +22,11 @@ returns-in-Delivery-clause-drawn c =
     λ d stands. delivery_drawn d c.args.choice c.args.rank c.args.self.now _ c.in-Delivery.is (c.delivery.ensures.drawn d stands)
 
 pub returns-in-Device-clause-drawn : goal.returns-in-Device-clause-drawn
-returns-in-Device-clause-drawn c = λ d stands. device_drawn d c.args.choice c.args.rank c.args.self.now c.in-Device.is
+returns-in-Device-clause-drawn c =
+    λ d stands. ap (λ e. undrawn e c.args.self.now) c.set_device.ensures ∙ device_drawn d c.args.choice c.args.rank c.args.self.now c.in-Device.is
 
 pub returns-in-Device-clause-formed : goal.returns-in-Device-clause-formed
-returns-in-Device-clause-formed c = device_formed c.args.rank c.requires.rank
+returns-in-Device-clause-formed c = ap (λ e. is_well_formed soak_settings e) c.set_device.ensures ∙ device_formed c.args.rank c.requires.rank
 
 pub returns-in-Incident-clause-drawn : goal.returns-in-Incident-clause-drawn
 returns-in-Incident-clause-drawn c =
