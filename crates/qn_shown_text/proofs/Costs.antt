@@ -1,9 +1,9 @@
 -- How many bytes the text of a value has at most.
-use Rattle.std.proofs.Common.{◌≡◌, ◌≤◌, ◌<◌, ℕ, ◌+◌, ◌*◌, ◌^◌, Bool, true, false, cond, ◌&&◌, List, [], ◌∷◌, ◌++◌, Option, None, Some, length, option_map, refl, sym, ap, subst, ◌∙◌, arith}
+use Rattle.std.proofs.Common.{◌≡◌, ◌≤◌, ℕ, ◌+◌, ◌*◌, Bool, true, false, cond, ◌&&◌, List, [], ◌∷◌, ◌++◌, Option, None, Some, length, option_map, refl, ap, arith}
 use Rattle.std.proofs.lemmas.Grind.{common_steps}
 use Rattle.std.proofs.lemmas.Nat.{mul-le}
-use Rattle.json.specs.Json.{Json, null, boolean, number, string, array, object}
-use Rattle.json.specs.Print.{begins, ends, escape, print_from, quoted, separator, token_text}
+use Rattle.json.specs.Json.{Json, boolean, string, array, object}
+use Rattle.json.specs.Print.{begins, ends, escape, print_from, separator, token_text}
 use Rattle.json.specs.Token.{Token}
 use Rattle.json.specs.Tree.{items_tokens, json_tokens, members_tokens}
 use Rattle.qn_base.specs.lemmas.Decimals.{length-decimal}

@@ -1,10 +1,10 @@
 -- The room of a status file is enough: how many bytes each part of it has at most.
-use Rattle.std.proofs.Common.{◌≡◌, ◌≤◌, ◌<◌, ℕ, ◌+◌, ◌*◌, ◌/◌, ◌%◌, ◌^◌, Bool, false, List, [], ◌∷◌, ◌++◌, Option, None, Some, length, option_map, codes, decimal, refl, sym, ap, ◌∙◌, arith, lit<}
+use Rattle.std.proofs.Common.{◌≤◌, ◌<◌, ℕ, ◌+◌, ◌/◌, ◌^◌, Bool, false, List, [], ◌++◌, Option, Some, length, option_map, codes, decimal, arith, lit<}
 use Rattle.std.proofs.lemmas.Fmt.{length-decimal-le}
 use Rattle.std.proofs.lemmas.Grind.{common_steps}
 use Rattle.std.proofs.lemmas.List.{length-append}
-use Rattle.json.specs.Json.{Json, null, boolean, number, string, array, object}
-use Rattle.json.specs.Print.{escape_byte, print_from}
+use Rattle.json.specs.Json.{boolean, number, string, array}
+use Rattle.json.specs.Print.{escape_byte}
 use Rattle.json.specs.Tree.{json_tokens}
 use Rattle.qn_base.specs.declared.ids.NodeId.{NodeId}
 use Rattle.qn_base.specs.lemmas.Decimals.{length-decimal}
@@ -28,13 +28,12 @@ use Rattle.qn_shown.specs.declared.words.DeviceAnswer.{DeviceAnswer}
 use Rattle.qn_shown.specs.declared.words.DeviceAnswer.TheVariants.{Yes, No, Silent}
 use Rattle.qn_shown.specs.declared.words.MailState.{MailState}
 use Rattle.qn_shown.specs.declared.words.MailState.TheVariants as mail
-use Rattle.qn_shown.specs.Entries.{Entry}
-use Rattle.qn_shown.specs.Fits.{ArbiterFits, CandidateFits, Fits, HeardFits, IsId, OnValue, PeerFits, StandingFits, ToldFits, ViewFits}
+use Rattle.qn_shown.specs.Fits.{AllOf, ArbiterFits, CandidateFits, Fits, HeardFits, IsId, OnValue, PeerFits, StandingFits, ToldFits, ViewFits}
 use Rattle.qn_shown.specs.Groups.{group_number}
 use Rattle.qn_shown.specs.Kinds.{time_text}
 use Rattle.qn_shown.specs.Spelling.{arbiter_entries, arbiter_json, candidate_json, group_json, heard_json, id_json, items_of, json_or_null, peer_entries, peer_json, shown_entries, shown_json, shown_text, standing_entries, standing_json, told_entries, view_entries, view_json, whole}
 use Rattle.qn_shown.specs.Words.{answer_word, mail_word}
-use Rattle.qn_shown_text.specs.Rooms.{ArePlain, HasPlainAddress, HasPlainName, IsPlain, IsUsual}
+use Rattle.qn_shown_text.specs.Rooms.{HasPlainAddress, HasPlainName, IsPlain, IsUsual}
 use Rattle.qn_shown_text.specs.StatusTexts.{status_text}
 use Rattle.qn_shown_text.proofs.Costs.{any_cost, array_cost, each, each_two, entries_cost, entry_any, entry_cost, entry_some, json_cost, key_cost, null_or, object_cost, on, on_two, print_cost, text_cost, truth_cost, value_cost, whole_cost}
 
@@ -178,10 +177,13 @@ candidate_cost candidate.Nobody fits =
     omega (arith, digits)
 candidate_cost (candidate.Named id) fits = id_cost id fits
 
+members_array : (ids : List NodeId) → length ids ≤ 32 → AllOf IsId ids → json_cost (array (items_of id_json ids)) ≤ 356
+members_array ids few are = array_cost id_json 11 32 ids few (each id_cost ids are)
+
 view_cost : (view : ShownView) → ViewFits view → entries_cost (view_entries view) ≤ 418
 unfolding escape_byte
 view_cost view fits =
-    let c3 = both (entry_some (codes "members") (array (items_of id_json view.members.items)) 356 (array_cost id_json 11 32 view.members.items fits.count (each id_cost view.members.items fits.members))) last in
+    let c3 = both (entry_some (codes "members") (array (items_of id_json view.members.items)) 356 (members_array view.members.items fits.count fits.members)) last in
     let c2 = both (whole_entry (codes "id") view.id fits.id) c3 in
     let c1 = both (entry_any (codes "candidate") (candidate_json view.candidate) 11 (candidate_cost view.candidate fits.candidate)) c2 in
     c1
@@ -207,6 +209,24 @@ standing_cost standing fits =
     let c1 = both (truth_entry (codes "fit") standing.fit) c2 in
     c1
 
+arbiter_object : (a : Option Arbiter) → OnValue ArbiterFits a → OnValue HasPlainAddress a → value_cost (option_map arbiter_json a) ≤ 442
+arbiter_object a fits plain =
+    any_cost arbiter_json 442 a (on_two (λ x fit is. object_cost (arbiter_entries x) 438 (arbiter_cost x fit is)) a fits plain)
+
+standing_object : (said : Option HostStanding) → OnValue StandingFits said → value_cost (option_map standing_json said) ≤ 79
+standing_object said fits =
+    any_cost standing_json 79 said (on (λ x fit. object_cost (standing_entries x) 75 (standing_cost x fit)) said fits)
+
+view_object : (view : Option ShownView) → OnValue ViewFits view → json_cost (json_or_null view_json view) ≤ 422
+view_object view fits =
+    null_or view_json 422 (omega arith) view (on (λ x fit. object_cost (view_entries x) 418 (view_cost x fit)) view fits)
+
+peers_array : (peers : List Peer) → length peers ≤ 31 → AllOf PeerFits peers → AllOf HasPlainName peers → json_cost (array (items_of peer_json peers)) ≤ 12001
+peers_array peers few fits plain = array_cost peer_json 387 31 peers few (each_two peer_object peers fits plain)
+
+sender_cost : (by : Option NodeId) → OnValue IsId by → json_cost (json_or_null id_json by) ≤ 11
+sender_cost by is = null_or id_json 11 (omega arith) by (on id_cost by is)
+
 shown_cost : (s : Shown) → IsUsual s → entries_cost (shown_entries s) ≤ 14256
 unfolding escape_byte
 shown_cost s usual =
@@ -214,21 +234,21 @@ shown_cost s usual =
     let p = usual.plain in
     let c31 = both (entry_some (codes "why") (string s.why) 259 (text_cost 256 s.why p.why f.why)) last in
     let c30 = both (whole_entry (codes "votes") s.answer.votes f.answer.votes) c31 in
-    let c29 = both (entry_some (codes "view") (json_or_null view_json s.view) 422 (null_or view_json 422 (omega arith) s.view (on (λ v fits. object_cost (view_entries v) 418 (view_cost v fits)) s.view f.view))) c30 in
+    let c29 = both (entry_some (codes "view") (json_or_null view_json s.view) 422 (view_object s.view f.view)) c30 in
     let c28 = both (whole_entry (codes "unwritten") s.counts.unwritten f.counts.unwritten) c29 in
     let c27 = both (entry_some (codes "time") (number (time_text s.time_ms)) 25 (time_cost s.time_ms f.time_ms)) c28 in
     let c26 = both (whole_entry (codes "tick") s.tick f.tick) c27 in
-    let c25 = both (entry_any (codes "standing") (option_map standing_json s.standing) 79 (any_cost standing_json 79 s.standing (on (λ said fits. object_cost (standing_entries said) 75 (standing_cost said fits)) s.standing f.standing))) c26 in
+    let c25 = both (entry_any (codes "standing") (option_map standing_json s.standing) 79 (standing_object s.standing f.standing)) c26 in
     let c24 = both (truth_entry (codes "released") s.answer.released) c25 in
     let c23 = both (whole_entry (codes "refused") s.counts.refused f.counts.refused) c24 in
     let c22 = both (whole_entry (codes "quorum") s.answer.quorum f.answer.quorum) c23 in
     let c21 = both (truth_entry (codes "quorate") s.answer.quorate) c22 in
     let c20 = both (whole_entry (codes "pid") s.pid f.pid) c21 in
     let c19 = both (entry_some (codes "phase") (string (phase_name s.phase)) 13 (phase_cost s.phase)) c20 in
-    let c18 = both (entry_some (codes "peers") (array (items_of peer_json s.peers.items)) 12001 (array_cost peer_json 387 31 s.peers.items usual.others (each_two peer_object s.peers.items f.peers p.peers))) c19 in
+    let c18 = both (entry_some (codes "peers") (array (items_of peer_json s.peers.items)) 12001 (peers_array s.peers.items usual.others f.peers p.peers)) c19 in
     let c17 = both (any_name (codes "name") s.name f.name p.name) c18 in
     let c16 = both (null_whole (codes "mail_tick") s.mailbox.tick f.mailbox.tick) c17 in
-    let c15 = both (entry_some (codes "mail_by") (json_or_null id_json s.mailbox.by) 11 (null_or id_json 11 (omega arith) s.mailbox.by (on id_cost s.mailbox.by f.mailbox.by))) c16 in
+    let c15 = both (entry_some (codes "mail_by") (json_or_null id_json s.mailbox.by) 11 (sender_cost s.mailbox.by f.mailbox.by)) c16 in
     let c14 = both (entry_some (codes "mail") (string (mail_word s.mailbox.state)) 13 (mail_cost s.mailbox.state)) c15 in
     let c13 = both (whole_entry (codes "loop") s.loop_ms (let small = f.loop_ms in omega (arith, small))) c14 in
     let c12 = both (whole_entry (codes "late") s.counts.late f.counts.late) c13 in
@@ -242,7 +262,7 @@ shown_cost s usual =
     let c4 = both (whole_entry (codes "expected") s.answer.expected f.answer.expected) c5 in
     let c3 = both (null_text (codes "end") s.end f.end p.end) c4 in
     let c2 = both (whole_entry (codes "dropped") s.counts.dropped f.counts.dropped) c3 in
-    let c1 = both (entry_any (codes "arbiter") (option_map arbiter_json s.arbiter) 442 (any_cost arbiter_json 442 s.arbiter (on_two (λ a fits plain. object_cost (arbiter_entries a) 438 (arbiter_cost a fits plain)) s.arbiter f.arbiter p.arbiter))) c2 in
+    let c1 = both (entry_any (codes "arbiter") (option_map arbiter_json s.arbiter) 442 (arbiter_object s.arbiter f.arbiter p.arbiter)) c2 in
     c1
 
 -- a text with the end of its line

@@ -1,4 +1,4 @@
-use Rattle.std.proofs.Common.{◌≡◌, refl, sym, ap, ◌∙◌, true, false, arith}
+use Rattle.std.proofs.Common.{◌≡◌, sym, ap, ◌∙◌, true, false, arith}
 use Rattle.qn_shown.specs.Spelling.{shown_json}
 use Rattle.qn_shown_text.specs.declared.fixed_text.FixedText.{FixedText}
 use Rattle.qn_shown_text.specs.declared.json_text.JsonText.{JsonText}

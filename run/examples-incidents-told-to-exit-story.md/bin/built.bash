@@ -1,0 +1,1 @@
+/work/w/knows/bin/built.bash
