@@ -206,7 +206,7 @@ take_over() {
 
 scene_take_overs() {
     local number
-    DATABASE=1 FIRMWARE=30 begun "${QUORUMD_TEST_WAY:-nbd}" && load || return 1
+    DATABASE=1 FIRMWARE=26 begun "${QUORUMD_TEST_WAY:-nbd}" && load || return 1
     for number in $(seq $(($(wc -l < "$TAKE_OVERS") + 1)) "$QUORUMD_TEST_TAKE_OVERS_TO"); do
         take_over "$number" || return 1
     done
