@@ -204,6 +204,15 @@ fault() {
     [ -z "${QUORUMD_TEST_LIAR-}" ] || "lie_$QUORUMD_TEST_LIAR"
 }
 
+# keep_awake: a host that is switched off stops its processes before it ends them, and each nsenter stands still with its own. The host would never be off then, and
+# whoever waits for that nsenter would wait for ever.
+keep_awake() {
+    while [ -d "$room" ]; do
+        pkill -CONT --session 0 -x nsenter
+        sleep 0.5
+    done
+}
+
 # look N: which of its resources host N has, five times a second, by its own looking: the address, the file system, the database, each for itself
 look() {
     local watcher
@@ -217,9 +226,7 @@ look() {
             sleep 0.15
         done' 2> /dev/null > >(note_signs "$1") &
         watcher=$!
-        # a host that is switched off stops its processes before it ends them, and nsenter stands still with its own: then it is not off
         while kill -0 "$watcher" 2> /dev/null; do
-            pkill -CONT -P "$watcher"
             sleep 0.5
             [ ! -e "$room/ending" ] || kill "$watcher" 2> /dev/null
         done
@@ -322,9 +329,11 @@ take_down() {
 tear_down() {
     take_down
     umount "$room/root" 2> /dev/null
-    leave_group
     rm -rf "$room"
+    [ -z "$waker" ] || wait "$waker"
+    leave_group
 }
 powered=()
 loops=()
 writer=
+waker=
