@@ -13,18 +13,20 @@ all_on() {
     for number in 1 2 3; do tell power "$number"; done
 }
 
-# begun WAY: the cluster is up, and machine 1 holds, since the nodes of the others start once its own has opened
+# begun WAY: the cluster is up, and machine 1 holds: no node starts before all machines have booted, which may take one another's processor, and those of the
+# others start once its own has opened
 begun() {
     local number
     set_up "$1" || return 1
-    for number in 2 3; do qemu_words "$number" 0 > "$room/qemu.$number"; done
+    for number in 1 2 3; do qemu_words "$number" 0 > "$room/qemu.$number"; done
     for number in 1 2 3; do tell power "$number"; done
-    until_true 120 saw 1 'event=open port.* ok=yes' || return 1
-    for number in 2 3; do
+    for number in 1 2 3; do
         until_true 120 boots "$number" 1 || return 1
-        order "$number" 'touch /run/begin'
         qemu_words "$number" 1 > "$room/qemu.$number"
     done
+    order 1 'touch /run/begin'
+    until_true 120 saw 1 'event=open port.* ok=yes' || return 1
+    for number in 2 3; do order "$number" 'touch /run/begin'; done
     until_true 60 owns 1 && sleep 3
 }
 
