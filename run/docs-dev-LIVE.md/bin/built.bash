@@ -1,1 +1,0 @@
-/work/w/knows/bin/built.bash
