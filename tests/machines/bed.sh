@@ -153,6 +153,7 @@ relayed() {
     mkfifo "$room/passing"
     quickly "$here/relay" t3 r3 < "$room/passing" > "$room/relay.log" 2>&1 &
     servers[9]=$!
+    disown
     exec 6> "$room/passing"
 }
 

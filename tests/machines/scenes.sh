@@ -4,7 +4,7 @@
 # The scenes. Each is a function that fails where something else came than should. Sourced by `machines`.
 all_scenes=(kill_nbd kill_three kill_etcd hang panic power_off cut_nbd cut_three cut_etcd not_heard hears_nobody slow_disk dead_disk dead_server
     one_server_of_three two_servers_of_three leader_killed member_killed wrong_watchdog long_sectors long_sectors_unsaid
-    message_test message_reset message_off message_exit message_crashdump mail_unread forged paused_machine)
+    message_test message_reset message_off message_exit message_crashdump mail_unread forged slewed paused_machine)
 
 # all_on WAY: three machines that boot
 all_on() {
@@ -274,6 +274,30 @@ scene_forged() {
     ip -n "$tag" link set t1 nomaster
     sleep 45
     saw 1 'event=packets-refused .*elsewhere=[1-9]' && nobody_owns && resets_are 0 0 0
+}
+
+# runs_fast N: the clock of machine N that a time daemon sets goes on by more than 10.5 s in ten seconds of this host
+runs_fast() {
+    local look='echo "clock $(cut -d \" \" -f 1 /proc/uptime)"'
+    order "$1" "$look"
+    sleep 10
+    order "$1" "$look"
+    sleep 1
+    awk -v who="$1" '$2 == who && $4 == "clock" { looks++; from = to; at = now; to = $5; now = $1 }
+        END { printf "the clock of machine %s: %.2f s in %.2f s\n", who, to - from, now - at; exit !(looks == 2 && to - from > 1.05 * (now - at)) }' "$room/events"
+}
+
+# The clocks of both others are slewed, a tenth fast, as a time daemon does it. The next owner begins msgwait after its reset was written, by the clock of the
+# hypervisor; machine 1 has no power any more, so nothing else is seen of that reset.
+scene_slewed() {
+    begun nbd || return 1
+    order 2 'adjtimex -t 11000'
+    order 3 'adjtimex -t 11000'
+    runs_fast 2 && runs_fast 3 || return 1
+    note 'machine 1 is switched off'
+    tell watch 1 "$room/disk"
+    tell off 1
+    taken_over && resets_are 0 0 0
 }
 
 # A machine that was told to go off stays off.

@@ -81,6 +81,9 @@ bounded 1 message_test 1 "$(scene - 5)" 'OUT OF BOUNDS: another machine held aft
 bounded 1 power_off 1 "$(scene 3 22)" 'OUT OF BOUNDS: machine 1 was reset after 3.00 s, and must not be'
 bounded 0 mail_unread 1 "$(scene 2 22)" ''
 bounded 1 mail_unread 1 "$(scene 7 24)" 'OUT OF BOUNDS: machine 1 was reset after 7.00 s, and 4.50 is the most'
+# from the write of the reset on: msgwait less 1 %
+bounded 0 slewed 1 "$(scene - 15.9)" ''
+bounded 1 slewed 1 "$(scene - 14.6)" 'OUT OF BOUNDS: another machine held after 14.60 s, and 15.84 is the least'
 bounded 0 wrong_watchdog 1 "$(scene 3 6)" ''
 bounded 1 hang 1 '90.000 1 sign 1 1\n' 'OUT OF BOUNDS: the scene has no fault'
 # with --first the fault is one of another machine
