@@ -54,7 +54,7 @@ make_python() {
     mkdir -p "$root/bin" "$root/lib" "$root/lib64" "$root/usr/lib" "$root/q/ocf/resource.d/t"
     cp -L /usr/bin/python3 "$root/bin/python3" && cp -a /usr/lib/python3.11 "$root/usr/lib/" || return 1
     (cd "$root/usr/lib/python3.11" && rm -rf test idlelib lib2to3 ensurepip pydoc_data turtledemo tkinter distutils unittest asyncio config-3.11-* dist-packages)
-    cp "$here/../../contrib/quorumd-resource" "$here"/../../contrib/*.py "$here/held" "$root/q/" && cp "$asker" "$root/bin/quorumctl" || return 1
+    cp "$here/../../contrib/quorumd-resource" "$here"/../../contrib/*.py "$here/held" "$here/signs" "$root/q/" && cp "$asker" "$root/bin/quorumctl" || return 1
     for name in $(ldd "$root/bin/python3" "$root/bin/quorumctl" "$root"/usr/lib/python3.11/lib-dynload/_ctypes.*.so | grep -o '/[^ ]*' | grep -v ':$' | sort -u); do
         case $name in */ld-linux*) ;; *) cp -L "$name" "$root/lib/" ;; esac
     done

@@ -2,7 +2,7 @@
 # What bed.sh and scenes.sh set is used here; what stands in single quotes is for the shell of a machine.
 # shellcheck disable=SC2154,SC2034,SC2016
 # PostgreSQL as the resource of the machines, with its data on a disk that all of them share, and clients beside the machines. Sourced by `machines`.
-CLIENT='host=10.7.0.100 user=postgres dbname=postgres connect_timeout=2 tcp_user_timeout=3000'
+CLIENT='host=10.7.0.100 user=postgres dbname=postgres connect_timeout=2 tcp_user_timeout=3000 keepalives_idle=2 keepalives_interval=1 keepalives_count=2'
 database_scenes=(database_power_cut)
 all_scenes+=("${database_scenes[@]}")
 
@@ -63,9 +63,11 @@ sql() { timeout 30 ip netns exec "$tag" "$(echo /usr/lib/postgresql/*/bin/psql)"
 # load: the writer and pgbench begin, and go on to the end of the scene
 load() {
     touch "$room/loaded"
-    inside "$here/rows" "$CLIENT" > "$room/acknowledged" 2> "$room/rows.log" &
+    quickly "$here/rows" "$CLIENT" > "$room/acknowledged" 2> "$room/rows.log" &
     servers[10]=$!
-    until_true 60 has_rows 20 && keep_busy > "$room/pgbench.log" 2>&1 &
+    disown
+    until_true 60 has_rows 20 || return 1
+    keep_busy > "$room/pgbench.log" 2>&1 &
     until_true 60 has_rows 40
 }
 

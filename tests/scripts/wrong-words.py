@@ -75,7 +75,7 @@ ROWS = {
 # no words of an operator: what starts a program or the gate, what dpkg or a machine starts
 LEFT_OUT = {"bin/quorumd", "bin/quorumctl", "bench/qn_soak_nodes", "bench/qn_tests", ".ci/run", ".ci/daily", ".ci/tools", "debian/postinst", "debian/postrm", "debian/prerm", "debian/rules",
             "debian/tests/first-answer", "debian/tests/looks", "debian/tests/take-over", "tests/hosts/ask_arbiter", "tests/hosts/database",
-            "tests/machines/held", "tests/machines/init"}
+            "tests/machines/held", "tests/machines/init", "tests/machines/signs"}
 
 
 def scripts():
