@@ -19,9 +19,6 @@ with_arbiter() {
     until_true 60 saw 1 'event=device answer=yes' && until_true 60 saw 2 'event=device answer=yes' && until_true 60 owns 1 && sleep 3
 }
 
-# said_times N TEXT COUNT: machine N said it so often
-said_times() { [ "$(grep -c -- "^[0-9.]* $1 console .*$2" "$room/events")" -ge "$3" ]; }
-
 # cut_between: nothing passes between machines 1 and 2 any more; each still reaches the arbiter
 cut_between() {
     fault 'nothing passes between machines 1 and 2'

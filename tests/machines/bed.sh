@@ -271,8 +271,9 @@ holding() {
 nobody_owns() { ! owner; }
 another_owns() { local who; who=$(owner) && [ "$who" != "$1" ]; }
 
-# saw N TEXT: machine N said it; did N WHAT: that became of it
+# saw N TEXT: machine N said it; said_times N TEXT COUNT: so often; did N WHAT: that became of it
 saw() { grep -q -- "^[0-9.]* $1 console .*$2" "$room/events"; }
+said_times() { [ "$(grep -c -- "^[0-9.]* $1 console .*$2" "$room/events")" -ge "$3" ]; }
 did() { grep -q "^[0-9.]* $1 $2\$" "$room/events"; }
 resets() { grep -c "^[0-9.]* $1 reset\$" "$room/events"; }
 boots() { [ "$(grep -c "^[0-9.]* $1 console machine: up" "$room/events")" -ge "$2" ]; }

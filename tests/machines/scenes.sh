@@ -278,13 +278,13 @@ scene_forged() {
 
 # runs_fast N: the clock of machine N that a time daemon sets goes on by more than 10.5 s in ten seconds of this host
 runs_fast() {
-    local look='echo "clock $(cut -d \" \" -f 1 /proc/uptime)"'
+    local look='echo "uptime $(cut -d \" \" -f 1 /proc/uptime)"'
     order "$1" "$look"
-    sleep 10
+    until_true 10 said_times "$1" 'uptime [0-9]' 1 && sleep 10 || return 1
     order "$1" "$look"
-    sleep 1
-    awk -v who="$1" '$2 == who && $4 == "clock" { looks++; from = to; at = now; to = $5; now = $1 }
-        END { printf "the clock of machine %s: %.2f s in %.2f s\n", who, to - from, now - at; exit !(looks == 2 && to - from > 1.05 * (now - at)) }' "$room/events"
+    until_true 10 said_times "$1" 'uptime [0-9]' 2 || return 1
+    awk -v who="$1" '$2 == who && $4 == "uptime" { from = to; at = now; to = $5; now = $1 }
+        END { printf "the clock of machine %s: %.2f s in %.2f s\n", who, to - from, now - at; exit !(to - from > 1.05 * (now - at)) }' "$room/events"
 }
 
 # The clocks of both others are slewed, a tenth fast, as a time daemon does it. The next owner begins msgwait after its reset was written, by the clock of the
