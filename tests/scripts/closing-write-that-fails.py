@@ -1,8 +1,9 @@
 """The closing write of a node fails: on its one image, or on two of three, it leaves dirty and its watchdog stays armed, which a line says; where it
-is done, of three images on two at least, it leaves clean and disarms. An image whose server took longer than a second counts as one that failed."""
+is done, of three images on two at least, it leaves clean and disarms. An image whose server took longer than a second counts as one that failed. Where
+that write lands after all, the node was not started again before it, and of two nodes that do not hear one another one owns."""
 import pathlib
 
-from live import Cluster, same, try_all
+from live import Cluster, free_ports, same, try_all
 from nbd import BlockServer, WRITE
 
 TRIES = 5
@@ -13,10 +14,10 @@ SLOTS = 512 * 65  # mailboxes stand behind these bytes
 class Servers(Cluster):
     """A cluster of one node whose images are servers of their own, each of which can be told to fail writes of slots, or to be late with them."""
 
-    def __init__(self, name, count):
+    def __init__(self, name, count, ids=(1,)):
         self.count, self.failing, self.late = count, set(), set()
         self.COMMAND = "node" if count == 1 else "node3"
-        super().__init__(name, ids=(1,))
+        super().__init__(name, ids=ids)
 
     def use_images(self):
         self.servers = [BlockServer(pathlib.Path(self.folder, "server.%d" % place)) for place in range(self.count)]
@@ -30,6 +31,40 @@ class Servers(Cluster):
                 return None
             return "error" if place in self.failing else "late" if place in self.late else None
         return fault
+
+
+class Pair(Servers):
+    """Two nodes on one image, which do not hear one another, and each of which is quorate alone."""
+
+    def __init__(self, name):
+        super().__init__(name, 1, ids=(1, 2))
+        self.server, self.place_of_write, self.before = self.servers[0], None, None
+        self.port_of = {1: self.port, 2: free_ports(2)}
+        conf = self.folder / "conf"
+        conf.write_text(conf.read_text().replace("quorum {\n", "quorum {\ntwo_node: 1\nwait_for_all: 0\n"))
+
+    def boots(self, ident):
+        """Boots a node and waits until it starts."""
+        node = self.node(ident, port=self.port_of[ident])
+        node.waits_for("start: ok")
+        return node
+
+    def delay_slots(self):
+        """From now on the answer to a write of a slot is late, and what stood there before is kept."""
+        def fault(_):
+            if self.server.command != WRITE or self.server.place >= SLOTS:
+                return None
+            self.place_of_write = slice(self.server.place, self.server.place + 512)
+            self.before = bytes(self.server.data[self.place_of_write])
+            return "late"
+        self.server.fault = fault
+
+    def take_back(self):
+        """Takes the write of the slot back, since it has not landed yet; what it wrote."""
+        self.server.fault = lambda _: None
+        written = bytes(self.server.data[self.place_of_write])
+        self.server.data[self.place_of_write] = self.before
+        return written
 
 
 def ends(name, count, failing, late=()):
@@ -80,4 +115,23 @@ def one_of_three_fails_and_one_is_late():
     closes(3, (2,), "left dirty\n", False, late=(0,))
 
 
-try_all(one_image, three_images, one_of_three_fails, two_of_three_fail, one_of_three_fails_and_one_is_late)
+def closing_write_that_lands_late():
+    """Only a node that disarmed may be started again on its machine before that write lands; the other one's machine is reset first, and has no write under way when it boots."""
+    cluster = Pair("lands-late")
+    first = cluster.boots(1)
+    cluster.delay_slots()
+    cluster.message(1, "exit")
+    same("it leaves", first.end(), (0, "left dirty\n"))
+    written = cluster.take_back()
+    is_armed = not cluster.watchdog(1).endswith("V")
+    if not is_armed:
+        first = cluster.boots(1)
+    cluster.server.data[cluster.place_of_write] = written
+    if is_armed:
+        first = cluster.boots(1)
+    cluster.boots(2)
+    same("node 1 runs beside node 2, which holds", first.runs(), False)
+    same("the end of node 1", first.end(), (13, "fault SelfReset reset\n"))
+
+
+try_all(closing_write_that_lands_late, one_image, three_images, one_of_three_fails, two_of_three_fail, one_of_three_fails_and_one_is_late)
