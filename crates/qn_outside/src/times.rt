@@ -16,7 +16,10 @@ impl Times {
     ghost use Rattle.qn_outside.specs.Times.{least};
 
     /// Times that bound nothing, of images that say none.
-    pub fn longest() -> Times {
+    pub fn longest() -> Times
+        ensures watchdog { result.watchdog ≡ u64.MAX }
+        ensures feed_delay { result.feed_delay ≡ u64.MAX }
+    {
         Times {
             watchdog: u64::MAX,
             feed_delay: u64::MAX,
