@@ -1,5 +1,6 @@
 -- Which datagrams are handed to a node (this project's profile).
-use Rattle.std.specs.Prelude.{◌≡◌, ℕ, ◌==◌, ◌&&◌, ◌||◌, Bool, true, false, not, nat_lt, is_some, List, length, min, slice_index, take, Option, Some, None, Ok, Err}
+use Rattle.std.specs.Prelude.{◌≡◌, ℕ, ◌==◌, ◌&&◌, ◌||◌, Bool, true, false, not, nat_lt, is_some, List, [], ◌∷◌, length, min, slice_index, take, Option, Some, None, Ok, Err}
+use Rattle.std.specs.Net.Addr.{IsV4And, ipv4_octets}
 use Rattle.std.specs.Net.Socket.{socket_ip, socket_port}
 use Rattle.std.specs.declared.net.ip_addr.IpAddr.{IpAddr}
 use Rattle.std.specs.declared.net.socket_addr.SocketAddr.{SocketAddr}
@@ -76,6 +77,16 @@ abbrev pub IsOpened : Option Receiver → ℕ → List ℕ → List ℕ → Type
 IsOpened None tick bytes inner = inner ≡ bytes
 IsOpened (Some receiver) tick bytes inner =
     judged receiver tick (opened_by receiver.keys receiver.texts bytes) ≡ Ok inner
+
+-- 127.0.0.1, which packets of this host alone come from
+abbrev pub IsHere : IpAddr → Type 0
+IsHere ip = IsV4And ip (λ four. ipv4_octets four ≡ 127 ∷ 0 ∷ 0 ∷ 1 ∷ [])
+
+-- a vote of a quorum device of this host, where these are taken
+pub record IsVoteHere (admission : Admission) (ip : IpAddr) (bytes : List ℕ) : Type 0 where
+  pub taken : admission.takes_votes ≡ true
+  pub here : IsHere ip
+  pub vote : is_vote bytes ≡ true
 
 -- the first 129 bytes, or all where these are fewer
 abbrev pub front_of : List ℕ → List ℕ

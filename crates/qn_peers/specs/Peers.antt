@@ -1,5 +1,5 @@
 -- Where a node of a cluster is (this project's profile).
-use Rattle.std.specs.Prelude.{◌≡◌, ℕ, ◌+◌, Option, Some, None, option_and_then, slice_index_or}
+use Rattle.std.specs.Prelude.{◌≡◌, ℕ, ◌+◌, ◌≤◌, Option, Some, None, option_and_then, slice_index_or}
 use Rattle.std.specs.declared.net.ip_addr.IpAddr.{IpAddr}
 use Rattle.qn_links.specs.declared.networks.Networks.{Networks}
 use Rattle.qn_links.specs.declared.sections.Ring.{Ring}
@@ -18,3 +18,8 @@ IsAt peers ring rank ip port = (address_on peers.networks ring rank ≡ Some ip)
 -- they are those of the node of that rank, which is another one
 abbrev pub IsOther : Peers → Ring → ℕ → IpAddr → ℕ → Type 0
 IsOther peers ring rank ip port = (rank ≡ peers.own → ⊥) × IsAt peers ring rank ip port
+
+-- so many ranks there are, up to the last that has an address
+pub record HasRanks (peers : Peers) (count : ℕ) : Type 0 where
+  pub past : (rank : ℕ) → count ≤ rank → address_on peers.networks First rank ≡ None
+  pub last : (rank : ℕ) → count ≡ rank + 1 → address_on peers.networks First rank ≡ None → ⊥

@@ -1,5 +1,5 @@
 -- How the packets of a node are sent (this project's profile).
-use Rattle.std.specs.Prelude.{ℕ, List, Option, Some, None, slice_set}
+use Rattle.std.specs.Prelude.{ℕ, ◌<◌, ◌≤◌, List, length, Option, Some, None, slice_set}
 use Rattle.qn_seal.specs.Seals.{sealed}
 use Rattle.qn_peers.specs.Numbers.{next_number}
 use Rattle.qn_peers.specs.declared.sealing.Sealing.{Sealing}
@@ -22,3 +22,8 @@ sent_as (Some sealing) to packet = sealed_by sealing to packet
 abbrev pub sealing_after : Option Sealing → ℕ → Option Sealing
 sealing_after None to = None
 sealing_after (Some sealing) to = Some (sealed_once sealing to)
+
+-- a packet that can be sent to that seat: with a key one of at most 74 bytes to a rank or the arbiter, else one of at most 128
+abbrev pub CanBeSent : Option Sealing → ℕ → List ℕ → Type 0
+CanBeSent None to packet = length packet ≤ 128
+CanBeSent (Some sealing) to packet = (to < 33) × (length packet ≤ 74)

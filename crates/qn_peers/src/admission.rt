@@ -1,8 +1,8 @@
 //! Which of the datagrams that come are handed to the node.
 ghost use Rattle.std.specs.Prelude.{◌≡◌};
 ghost use Rattle.std.specs.Net.Socket.{socket_ip, socket_port};
-ghost use Rattle.qn_peers.specs.Admission.{IsHanded, IsOf, IsOpened, IsOwn, IsRefused, front_of, is_double, is_of_host, is_reply, is_request, is_strange, is_vote, is_word, names_other, receiver_after_taking, seat_of};
-ghost use Rattle.qn_peers.specs.Guards.{OpensBy, keys_of, takes_votes};
+ghost use Rattle.qn_peers.specs.Admission.{IsHanded, IsOf, IsOpened, IsOwn, IsRefused, IsVoteHere, front_of, is_double, is_of_host, is_reply, is_request, is_strange, is_vote, is_word, names_other, receiver_after_taking, seat_of};
+ghost use Rattle.qn_peers.specs.Guards.{ReceivesBy, keys_of, takes_votes};
 
 use crate::admitted::Admitted;
 use crate::guard::Guarding;
@@ -81,7 +81,7 @@ impl Admission {
     /// With these places, under that guard.
     pub fn new(peers: Peers, arbiter: Option<SocketAddr>, guarding: &Guarding) -> Admission
         ensures places { (result.peers ≡ peers) × (result.arbiter ≡ arbiter) }
-        ensures opens { OpensBy guarding.now (keys_of guarding.now.guard) result.receiver }
+        ensures opens { ReceivesBy peers guarding.now (keys_of guarding.now.guard) result.receiver }
         ensures votes { result.takes_votes ≡ takes_votes guarding.now }
     {
         Admission {
@@ -130,8 +130,8 @@ impl Admission {
     /// A vote of the quorum device of this host, where these are taken and the datagram is one.
     pub fn take_vote(&self, from: SocketAddr, bytes: &[u8]) -> Option<Admitted>
         ensures its { IfSome result (λ packet. packet ≡ front_of bytes.now) }
-        ensures vote { IfSome result (λ _. is_vote bytes.now ≡ true) }
-        ensures taken { IfSome result (λ _. self.now.takes_votes ≡ true) }
+        ensures vote { IfSome result (λ _. IsVoteHere self.now (socket_ip from) bytes.now) }
+        ensures none { IfNone result (IsVoteHere self.now (socket_ip from) bytes.now → ⊥) }
     {
         let is_here = from.ip() == IpAddr::V4(Ipv4Addr::LOCALHOST);
         if self.takes_votes && is_here && is_vote(bytes) {
@@ -179,7 +179,7 @@ pub fn is_double(peers: &Peers, sender: Option<Sender>, reason: Reason) -> bool
 
 /// The receiver of seals of a node, where there are keys.
 fn receiver_for(peers: &Peers, guarding: &Guarding) -> Option<Receiver>
-    ensures { OpensBy guarding.now (keys_of guarding.now.guard) result }
+    ensures { ReceivesBy peers.now guarding.now (keys_of guarding.now.guard) result }
 {
     let keys = guarding.keys()?;
     Some(Receiver::new(peers.own, peers.count(), keys, guarding.texts))

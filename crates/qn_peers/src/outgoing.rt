@@ -25,12 +25,13 @@ impl Model for Outgoing {
 }
 
 impl Outgoing {
-    ghost use Rattle.std.specs.Prelude.{◌≡◌, ◌<◌, ◌≤◌, IfOk, OnErr, length};
+    ghost use Rattle.std.specs.Prelude.{◌≡◌, ◌<◌, ◌≤◌, IfOk, OnOk, OnErr, length};
 
     /// These bytes as they are. It fails for more than 128.
     fn plain(bytes: &[u8]) -> io::Result<Outgoing>
         ensures same { IfOk result (λ packet. packet ≡ bytes.now) }
-        ensures fits { OnErr result (128 < length bytes.now) }
+        ensures fits { OnOk result (length bytes.now ≤ 128) }
+        ensures unfit { OnErr result (128 < length bytes.now) }
     {
         let mut kept = ArrayVec::new();
         match kept.try_extend_from_slice(bytes) {
@@ -54,13 +55,15 @@ pub struct Dispatch {
 }
 
 impl Dispatch {
-    ghost use Rattle.std.specs.Prelude.{◌≡◌, IfOk, OnOk, OnErr};
-    ghost use Rattle.qn_peers.specs.Guards.{SealsBy, keys_of};
-    ghost use Rattle.qn_peers.specs.Sending.{sealing_after, sent_as};
+    ghost use Rattle.std.specs.Prelude.{◌≡◌, ◌≢◌, None, IfOk, OnOk, OnErr};
+    ghost use Rattle.qn_peers.specs.Guards.{SendsBy, keys_of};
+    ghost use Rattle.qn_peers.specs.Sending.{CanBeSent, sealing_after, sent_as};
 
     /// For the node of that rank, or for the arbiter as rank 32, which opens its port now. It fails where the clock cannot be read and there is a key.
     pub fn new<C: Clock>(clock: &C, own: Rank, guarding: &Guarding) -> io::Result<Dispatch>
-        ensures { IfOk result (λ dispatch. SealsBy guarding.now (keys_of guarding.now.guard) dispatch.sealing) }
+        ensures seals { IfOk result (λ dispatch.
+            SendsBy own guarding.now (keys_of guarding.now.guard) dispatch.sealing) }
+        ensures keyed { OnErr result (keys_of guarding.now.guard ≢ None) }
     {
         let sealing = match guarding.keys() {
             None => None,
@@ -73,6 +76,8 @@ impl Dispatch {
     pub fn packet(&mut self, to: Rank, bytes: &[u8]) -> io::Result<Outgoing>
         ensures form { IfOk result (λ packet. packet ≡ sent_as self.old.sealing to.0 bytes.now) }
         ensures next { OnOk result (self.new.sealing ≡ sealing_after self.old.sealing to.0) }
+        ensures fits { OnOk result (CanBeSent self.old.sealing to.0 bytes.now) }
+        ensures unfit { OnErr result (CanBeSent self.old.sealing to.0 bytes.now → ⊥) }
         ensures same { OnErr result (self.new ≡ self.old) }
     {
         match &mut self.sealing {

@@ -2,7 +2,7 @@
 ghost use Rattle.std.specs.Net.Socket.{socket_ip, socket_port};
 ghost use Rattle.std.specs.declared.net.ip_addr.IpAddr.{IpAddr};
 ghost use Rattle.qn_links.specs.declared.sections.Ring.{Ring};
-ghost use Rattle.qn_peers.specs.Peers.{IsAt, IsOther, address_on};
+ghost use Rattle.qn_peers.specs.Peers.{HasRanks, IsAt, IsOther, address_on};
 
 use qn_links::{Networks, Ring};
 use std::net::{IpAddr, SocketAddr};
@@ -93,10 +93,7 @@ impl Peers {
 
     /// How many ranks there are up to the last that has an address.
     pub fn count(&self) -> u8
-        ensures past { (rank : ℕ) → result ≤ rank
-            → slice_index_or self.now.networks.first rank None ≡ None }
-        ensures last { (rank : ℕ) → result ≡ rank + 1
-            → slice_index_or self.now.networks.first rank None ≡ None → ⊥ }
+        ensures { HasRanks self.now result }
     {
         let links = &self.networks.first;
         match links.iter().rposition(|address| address.is_some()) {
