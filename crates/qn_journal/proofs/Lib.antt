@@ -1,1 +1,7 @@
+mod Costs
+mod EntryTexts
+mod Printing
+mod Rooms
 mod Said
+mod StatusTexts
+mod Wholeness

@@ -2,7 +2,7 @@
 use Rattle.std.proofs.Common.{◌≡◌, ℕ, List, Option, Some, None}
 use Rattle.std.specs.Prelude.{IfSome}
 use Rattle.qn_shown.specs.declared.shown.Shown.{Shown}
-use Rattle.qn_shown_text.specs.StatusTexts.{status_text}
+use Rattle.qn_journal.specs.StatusTexts.{status_text}
 use Rattle.qn_journal.specs.declared.status.Seen.{Seen}
 use Rattle.qn_journal.specs.Statuses.{IsStatusOf, Shows}
 

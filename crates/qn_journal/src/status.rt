@@ -2,8 +2,7 @@
 ghost use Rattle.std.specs.Prelude.{◌≡◌, IfSome};
 ghost use Rattle.qn_journal.specs.Statuses.{IsStatusOf, Shows};
 
-use crate::mail::{MailState, Mailbox};
-use crate::node_names::NodeNames;
+use crate::shown_text::ShownText;
 use arrayvec::{ArrayString, ArrayVec};
 use qn_base::{Mask, NodeId, Rank, View};
 use qn_event::Moment;
@@ -11,12 +10,11 @@ use qn_live::Standing;
 use qn_machine::Voices;
 use qn_model::{Nodes, Phase};
 use qn_names::write_why;
-use qn_news::{DeviceNews, Peers, Telling};
 use qn_shown::{
     Arbiter, Candidate, Counts, MailState as ShownMail, Mailbox as ShownMailbox, Peer, ShortString,
     Shown, ShownView,
 };
-use qn_shown_text::ShownText;
+use qn_told::{DeviceNews, MailState, Mailbox, NodeNames, Peers, Telling};
 use std::fmt::Write;
 use std::net::SocketAddr;
 use std::str;
@@ -90,7 +88,7 @@ fn shown_of(seen: &Seen<'_>) -> Option<Shown>
         incarnation: standing.incarnation,
         loop_ms: u32::try_from(seen.loop_ms).unwrap_or(u32::MAX),
         mailbox: mailbox_of(seen.mailbox),
-        name: name_of(seen.names.of(seen.me)),
+        name: name_of(seen.names.at(usize::from(seen.me.0))),
         peers: peers_of(seen),
         phase: standing.phase,
         pid: u64::from(seen.pid),

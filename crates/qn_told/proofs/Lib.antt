@@ -1,1 +1,2 @@
+mod LooksOn
 pub mod MemberLists

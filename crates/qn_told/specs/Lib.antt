@@ -1,2 +1,13 @@
+pub mod Calls
+pub mod Devices
+pub mod Entries
 pub mod Events
+pub mod Hearing
+pub mod Losses
+pub mod Mails
+pub mod Names
 pub mod Remarks
+pub mod Seldoms
+pub mod Stops
+pub mod Telling
+pub mod Tellings

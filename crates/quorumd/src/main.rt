@@ -19,7 +19,7 @@ use edge::edge_of;
 use last_line::LastLine;
 use qn_base::read_decimal;
 use qn_io::put_all;
-use qn_journal::{Journal, NodeNames};
+use qn_journal::{Journal, NodeNames, OnErrors};
 use qn_machine::{Edge, Lines, RealEnv, ReplacedFile, StdSink, StdSource, SteadyHost};
 use qn_top::top;
 use qn_usage::{
@@ -99,12 +99,13 @@ fn journal_of<'a, 'host>(
     lines: &'a Lines,
     files: &'a NodeFiles,
     names: NodeNames<'a>,
-) -> Journal<'a, SteadyHost<'host>> {
+) -> Journal<'a, SteadyHost<'host>, OnErrors<'a, SteadyHost<'host>>> {
     let status = files.status.as_ref().map(String::as_str);
     let group = files.group.as_ref().map(String::as_str);
     Journal::new(
         host,
         lines,
+        OnErrors::new(host, lines),
         status.and_then(ReplacedFile::at),
         group,
         names,

@@ -1,6 +1,0 @@
-mod Costs
-mod EntryTexts
-mod Printing
-mod Rooms
-mod StatusTexts
-mod Wholeness

@@ -1,7 +1,0 @@
-use Rattle.std.proofs.Common.{◌≡◌, drop}
-use Rattle.qn_shown_text.specs.FixedTexts.{with_text}
-use Rattle.qn_shown_text.proofs.fixed_text.FixedText.text.Given as goal
-
--- what is there, with the rest added, is the whole
-abbrev pub invariant-loop-byte : goal.invariant-loop-byte
-invariant-loop-byte l = with_text l.self (drop l.byte-index l.text) ≡ with_text l.initial.self l.text

@@ -1,4 +1,0 @@
-pub mod FixedTexts
-pub mod JsonTexts
-pub mod Rooms
-pub mod StatusTexts
