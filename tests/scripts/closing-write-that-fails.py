@@ -44,13 +44,8 @@ class Pair(Servers):
         conf.write_text(conf.read_text().replace("quorum {\n", "quorum {\ntwo_node: 1\nwait_for_all: 0\n"))
 
     def boots(self, ident):
-        """Boots a node and waits until it starts; where the server of a busy host was too late for an opening, that is made again."""
-        for _ in range(TRIES):
-            node = self.node(ident, port=self.port_of[ident])
-            if not is_unopened(node):
-                break
-        node.waits_for("start: ok")
-        return node
+        """Boots a node and waits until it starts."""
+        return started(lambda: self.node(ident, port=self.port_of[ident]))
 
     def delay_slots(self):
         """From now on the answer to a write of a slot is late, and what stood there before is kept."""
@@ -76,11 +71,20 @@ def is_unopened(node):
     return node.answer.read_text() == "fault EnvFault\n"
 
 
+def started(opens):
+    """A node that started; where the servers of a busy host were too late for its opening, it is opened again."""
+    for _ in range(TRIES):
+        node = opens()
+        if not is_unopened(node):
+            break
+    node.waits_for("start: ok")
+    return node
+
+
 def ends(name, count, failing, late=()):
     """How a node on so many images ends that leaves, at an exit, while the writes of slots on these fail, and on those take too long."""
     cluster = Servers(name, count)
-    node = cluster.node(1)
-    node.waits_for("start: ok")
+    node = started(lambda: cluster.node(1))
     cluster.late, cluster.failing = set(late), set(failing)
     cluster.message(1, "exit")
     end = node.end()
