@@ -3,7 +3,7 @@ is done, of three images on two at least, it leaves clean and disarms. An image 
 that write lands after all, the node was not started again before it, and of two nodes that do not hear one another one owns."""
 import pathlib
 
-from live import Cluster, free_ports, same, try_all
+from live import Cluster, free_ports, same, try_all, wait_for
 from nbd import BlockServer, WRITE
 
 TRIES = 5
@@ -45,9 +45,7 @@ class Pair(Servers):
 
     def boots(self, ident):
         """Boots a node and waits until it starts."""
-        node = self.node(ident, port=self.port_of[ident])
-        node.waits_for("start: ok")
-        return node
+        return started(lambda: self.node(ident, port=self.port_of[ident]))
 
     def delay_slots(self):
         """From now on the answer to a write of a slot is late, and what stood there before is kept."""
@@ -67,15 +65,30 @@ class Pair(Servers):
         return written
 
 
+def is_unopened(node):
+    """Whether a node that was started ended with its opening; else it starts, or ended otherwise."""
+    wait_for("node %d starts or ends" % node.ident, lambda: node.ticks("start: ok") or not node.runs())
+    return node.answer.read_text() == "fault EnvFault\n"
+
+
+def started(opens):
+    """A node that started; where the servers of a busy host were too late for its opening, it is opened again."""
+    for _ in range(TRIES):
+        node = opens()
+        if not is_unopened(node):
+            break
+    node.waits_for("start: ok")
+    return node
+
+
 def ends(name, count, failing, late=()):
     """How a node on so many images ends that leaves, at an exit, while the writes of slots on these fail, and on those take too long."""
     cluster = Servers(name, count)
-    node = cluster.node(1)
-    node.waits_for("start: ok")
+    node = started(lambda: cluster.node(1))
     cluster.late, cluster.failing = set(late), set(failing)
     cluster.message(1, "exit")
     end = node.end()
-    others = ["quorumd: %s:" % server.word() for place, server in enumerate(cluster.servers) if place not in {*failing, *late}]
+    others = ["%s:" % server.word() for place, server in enumerate(cluster.servers) if place not in {*failing, *late}]
     is_disturbed = any(said.startswith(other) for said in node.said() for other in others)
     return end, cluster.watchdog(1), any(said.endswith(ARMED) for said in node.said()), is_disturbed
 
@@ -130,8 +143,9 @@ def closing_write_that_lands_late():
     if is_armed:
         first = cluster.boots(1)
     cluster.boots(2)
-    same("node 1 runs beside node 2, which holds", first.runs(), False)
+    fed = cluster.watchdog(1)  # on a busy host a node that is fed no more may still run here, where its watchdog is a file
     same("the end of node 1", first.end(), (13, "fault SelfReset reset\n"))
+    same("node 1 is fed beside node 2, which holds", cluster.watchdog(1), fed)
 
 
 try_all(closing_write_that_lands_late, one_image, three_images, one_of_three_fails, two_of_three_fail, one_of_three_fails_and_one_is_late)
