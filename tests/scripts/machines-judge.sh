@@ -22,16 +22,16 @@ same "$(cat journal)" "$(printf '1.000 1\n1.100 1\n3.010 1 reset\n9.000 2')"
 
 # two at once
 judged 1 '1.000 1 sign 1 1\n1.100 2 sign 1 1\n1.200 1 sign 1 2\n' \
-    '0.00 machine 1 holds until 0.20: 2 signs, 0 lost|0.10 machine 2 holds until 0.10: 1 signs, 0 lost|TWO OWNERS: 1 and 2, from 0.10 to 0.10'
+    '0.00 machine 1 holds until 0.20: 2 signs, 0 lost|0.10 machine 2 holds until 0.10: 1 signs, 0 lost|TWO OWNERS: machine 1 until 0.2 s, machine 2 from 0.1 s'
 # a second between two signs is not enough, more is
 judged 1 '1.000 1 sign 1 1\n2.000 2 sign 1 1\n' \
-    '0.00 machine 1 holds until 0.00: 1 signs, 0 lost|1.00 machine 2 holds until 1.00: 1 signs, 0 lost|TWO OWNERS: 1 and 2, from 0.00 to 1.00'
+    '0.00 machine 1 holds until 0.00: 1 signs, 0 lost|1.00 machine 2 holds until 1.00: 1 signs, 0 lost|TWO OWNERS: machine 1 until 0.0 s, machine 2 from 1.0 s'
 judged 0 '1.000 1 sign 1 1\n2.001 2 sign 1 1\n' \
     '0.00 machine 1 holds until 0.00: 1 signs, 0 lost|1.00 machine 2 holds until 1.00: 1 signs, 0 lost'
 
 # the signs of machine 1 from 2 to 49 were lost: it held all the while, and machine 2 beside it
 judged 1 '1.000 1 sign 1 1\n3.000 2 sign 1 1\n3.100 2 sign 1 2\n6.000 1 sign 1 50\n' \
-    '0.00 machine 1 holds until 5.00: 2 signs, 48 lost|2.00 machine 2 holds until 2.10: 2 signs, 0 lost|TWO OWNERS: 1 and 2, from 2.00 to 2.10'
+    '0.00 machine 1 holds until 5.00: 2 signs, 48 lost|2.00 machine 2 holds until 2.10: 2 signs, 0 lost|TWO OWNERS: machine 1 until 5.0 s, machine 2 from 2.0 s'
 # another holding of the same boot is another one, and so is one of another boot: between them nobody is known to hold
 judged 0 '1.000 1 sign 1 1\n3.000 2 sign 1 1\n6.000 1 sign 2 1\n' \
     '0.00 machine 1 holds until 0.00: 1 signs, 0 lost|2.00 machine 2 holds until 2.00: 1 signs, 0 lost|5.00 machine 1 holds until 5.00: 1 signs, 0 lost'
@@ -40,7 +40,7 @@ judged 0 '1.000 1 sign 1 1\n2.000 1 powered\n3.000 2 sign 1 1\n6.000 1 sign 1 1\
 
 # half a sign is one
 judged 1 '1.000 1 sign 1 1\n5.000 1 sign 7\n5.100 2 sign 1 1\n' \
-    '0.00 machine 1 holds until 4.00: 2 signs, 0 lost|4.10 machine 2 holds until 4.10: 1 signs, 0 lost|TWO OWNERS: 1 and 2, from 4.00 to 4.10'
+    '0.00 machine 1 holds until 4.00: 2 signs, 0 lost|4.10 machine 2 holds until 4.10: 1 signs, 0 lost|TWO OWNERS: machine 1 until 4.0 s, machine 2 from 4.1 s'
 judged 0 '1.000 1 sign \n' '0.00 machine 1 holds until 0.00: 1 signs, 0 lost'
 
 # bounded STATUS SCENE SLOW 'EVENTS' 'LINE..': what the judge says of the bounds of that scene, with the times 8, 16, 1.5, 3, 1 s
@@ -63,27 +63,27 @@ scene() {
 
 # as it is; a watchdog that resets too soon, too late, never; a start before the fence and msgwait, too late, never; a reset that nobody ordered
 bounded 0 hang 1 "$(scene 7 22)" ''
-bounded 1 hang 1 "$(scene 5.2 22)" 'OUT OF BOUNDS: machine 1 was reset after 5.20 s, and 5.25 is the least'
+bounded 1 hang 1 "$(scene 5.2 22)" 'OUT OF BOUNDS: machine 1 was reset 5.2 s after the fault, and 5.2 is the least'
 bounded 0 hang 1 "$(scene 9.3 22)" ''
-bounded 1 hang 1 "$(scene 12.6 22)" 'OUT OF BOUNDS: machine 1 was reset after 12.60 s, and 9.33 is the most'
-bounded 1 hang 1 "$(scene - 22)" 'OUT OF BOUNDS: machine 1 was reset never, and 9.33 s is the most'
-bounded 1 hang 1 "$(scene 4 6)" 'OUT OF BOUNDS: machine 1 was reset after 4.00 s, and 5.25 is the least|OUT OF BOUNDS: another machine held after 6.00 s, and 18.84 is the least'
-bounded 1 hang 1 "$(scene 7 32)" 'OUT OF BOUNDS: another machine held after 32.00 s, and 31.00 is the most'
-bounded 1 hang 1 "$(scene 7 -)" 'OUT OF BOUNDS: another machine held never, and 31.00 s is the most'
-bounded 1 hang 1 "$(scene 7 22 '107.000 3 reset')" 'OUT OF BOUNDS: machine 3 was reset, and nobody ordered it'
+bounded 1 hang 1 "$(scene 12.6 22)" 'OUT OF BOUNDS: machine 1 was reset 12.6 s after the fault, and 9.3 is the most'
+bounded 1 hang 1 "$(scene - 22)" 'OUT OF BOUNDS: machine 1 was NOT RESET'
+bounded 1 hang 1 "$(scene 4 6)" 'OUT OF BOUNDS: machine 1 was reset 4.0 s after the fault, and 5.2 is the least|OUT OF BOUNDS: machine 2 took over 6.0 s after the fault, and nobody may within 18.8'
+bounded 1 hang 1 "$(scene 7 32)" 'OUT OF BOUNDS: machine 2 took over 32.0 s after the fault, and 31.0 is the most'
+bounded 1 hang 1 "$(scene 7 -)" 'OUT OF BOUNDS: NOBODY TOOK OVER'
+bounded 1 hang 1 "$(scene 7 22 '107.000 3 reset')" 'OUT OF BOUNDS: machine 3 was reset'
 # upper bounds grow with the load of the bed, lower ones do not; that of a reset grows by half a second a time: a feed that is five seconds late is seen on any bed
 bounded 0 hang 1.5 "$(scene 9.5 40)" ''
-bounded 1 hang 3.9 "$(scene 10.8 40)" 'OUT OF BOUNDS: machine 1 was reset after 10.80 s, and 10.78 is the most'
-bounded 1 hang 1.5 "$(scene 5.2 18)" 'OUT OF BOUNDS: machine 1 was reset after 5.20 s, and 5.25 is the least|OUT OF BOUNDS: another machine held after 18.00 s, and 18.84 is the least'
+bounded 1 hang 3.9 "$(scene 10.8 40)" 'OUT OF BOUNDS: machine 1 was reset 10.8 s after the fault, and 10.8 is the most'
+bounded 1 hang 1.5 "$(scene 5.2 18)" 'OUT OF BOUNDS: machine 1 was reset 5.2 s after the fault, and 5.2 is the least|OUT OF BOUNDS: machine 2 took over 18.0 s after the fault, and nobody may within 18.8'
 # where nothing must come, and where nothing is asked
 bounded 0 message_test 1 "$(scene - -)" ''
-bounded 1 message_test 1 "$(scene - 5)" 'OUT OF BOUNDS: another machine held after 5.00 s, and must not be'
-bounded 1 power_off 1 "$(scene 3 22)" 'OUT OF BOUNDS: machine 1 was reset after 3.00 s, and must not be'
+bounded 1 message_test 1 "$(scene - 5)" 'OUT OF BOUNDS: machine 2 took over, and nobody was to'
+bounded 1 power_off 1 "$(scene 3 22)" 'OUT OF BOUNDS: machine 1 was reset'
 bounded 0 mail_unread 1 "$(scene 2 22)" ''
-bounded 1 mail_unread 1 "$(scene 7 24)" 'OUT OF BOUNDS: machine 1 was reset after 7.00 s, and 4.50 is the most'
+bounded 1 mail_unread 1 "$(scene 7 24)" 'OUT OF BOUNDS: machine 1 was reset 7.0 s after the fault, and 4.5 is the most'
 # from the write of the reset on: msgwait less 1 %
 bounded 0 slewed 1 "$(scene - 15.9)" ''
-bounded 1 slewed 1 "$(scene - 14.6)" 'OUT OF BOUNDS: another machine held after 14.60 s, and 15.84 is the least'
+bounded 1 slewed 1 "$(scene - 14.6)" 'OUT OF BOUNDS: machine 2 took over 14.6 s after the fault, and nobody may within 15.8'
 bounded 0 wrong_watchdog 1 "$(scene 3 6)" ''
 bounded 1 hang 1 '90.000 1 sign 1 1\n' 'OUT OF BOUNDS: the scene has no fault'
 # with --first the fault is one of another machine
