@@ -3,7 +3,7 @@
 # shellcheck disable=SC2154,SC2034,SC2016
 # PostgreSQL as the resource of the machines, with its data on a disk that all of them share, and clients beside the machines. Sourced by `machines`.
 CLIENT='host=10.7.0.100 user=postgres dbname=postgres connect_timeout=2 tcp_user_timeout=3000 keepalives_idle=2 keepalives_interval=1 keepalives_count=2'
-database_scenes=(database_power_cut)
+database_scenes=(database_power_cut database_site_off)
 all_scenes+=("${database_scenes[@]}")
 
 # pg NAME WORD..: that program of PostgreSQL
@@ -121,9 +121,18 @@ scene_database_power_cut() {
     until_true 60 did 1 reset && taken_over && resets_are 1 0 0 && writes_again 60 && sleep 3 && judge_rows
 }
 
+# The power of a whole site is gone while rows are written, and comes back: whichever machine holds then has each row that was acknowledged.
+scene_database_site_off() {
+    local number
+    DATABASE=1 begun nbd && load && sleep 10 && site_is_off || return 1
+    for number in 1 2 3; do switched_on "$number"; done
+    until_true 150 owner && writes_again 90 && sleep 3 && judge_rows && resets_are 0 0 0
+}
+
 # The campaign, which `bench/take-overs` plays: take-overs on machines that stay on, each second one a power cut. A line of each is written to TAKE_OVERS: its number, what
 # befell which machine, which one took over, seconds from the fault to the reset and to the first sign of another machine (`-`: none), the longest time without a row in
-# milliseconds, the rows that were acknowledged since the fault, those of all that are lost, whether the sums of pgbench agree, the word of the judge, and when it was.
+# milliseconds, the rows that were acknowledged since the fault, those of all that are lost, whether the sums of pgbench agree, the word of the judge, when it was, and the way of
+# the disk.
 TAKE_OVERS=${QUORUMD_TEST_TAKE_OVERS-}
 CUTS=(cut plug)
 OTHERS=(kill hang panic cable message)
@@ -184,9 +193,9 @@ record() {
     "$here/judge" --scene "$(bounds_of "$2")" --times "$TIMES" --slow "$slow" --first "$3" "$room/round" | grep 'OUT OF BOUNDS\|TWO OWNERS' && word=FAILED
     lost=$(lost_rows) && [ "$lost" = 0 ] || word=FAILED
     sums_agree && sums=agree || word=FAILED
-    printf '%s\t%s\t%s\t%s\t%s\t%s\t%s\t%s\t%s\n' "$1" "$2" "$3" "$(times_of "$3")" \
+    printf '%s\t%s\t%s\t%s\t%s\t%s\t%s\t%s\t%s\t%s\n' "$1" "$2" "$3" "$(times_of "$3")" \
         "$(awk -v from="$4" 'NR > from && NR > 1 && $2 - last > longest { longest = $2 - last } { last = $2 } END { printf "%d\t%d", longest, NR - from }' "$room/acknowledged")" \
-        "$lost" "$sums" "$word" "$(date -u +%FT%TZ)" >> "$TAKE_OVERS"
+        "$lost" "$sums" "$word" "$(date -u +%FT%TZ)" "$way" >> "$TAKE_OVERS"
 }
 
 # take_over NUMBER: one of them, from a cluster in which all is well to the next one

@@ -85,6 +85,26 @@ bounded 1 mail_unread 1 "$(scene 7 24)" 'OUT OF BOUNDS: machine 1 was reset 7.0 
 bounded 0 slewed 1 "$(scene - 15.9)" ''
 bounded 1 slewed 1 "$(scene - 14.6)" 'OUT OF BOUNDS: machine 2 took over 14.6 s after the fault, and nobody may within 15.8'
 bounded 0 wrong_watchdog 1 "$(scene 3 6)" ''
+
+# site SCENE STATUS MACHINE OWNER 'LINE..' [EVENT..]: machine 1 holds, and at 100 all plugs are pulled. The machines are up again at 115, 146 and 170; MACHINE holds from OWNER on
+site() {
+    local name=$1 want=$2 who=$3 owner=$4 lines=$5
+    shift 5
+    bounded "$want" "$name" 1 "$(printf '%s\\n' '80.000 1 powered' '80.000 2 powered' '80.000 3 powered' '85.000 1 console machine: up after 4 s' \
+        '85.000 2 console machine: up after 4 s' '85.000 3 console machine: up after 4 s' '90.000 1 sign 1 1' '100.000 scene fault the site is off' '100.100 1 off' '100.100 2 off' \
+        '100.100 3 off' '110.000 2 powered' '115.000 2 console machine: up after 4 s' '140.000 3 powered' '146.000 3 console machine: up after 5 s' '165.000 1 powered' \
+        '170.000 1 console machine: up after 4 s' "$owner.000 $who sign 1 1" '200.000 2 console the last line' "$@")" "$lines"
+}
+
+# from when two machines are back on
+site site_off 0 1 175 ''
+site site_off 0 2 146 ''
+site site_off 1 2 145 'OUT OF BOUNDS: machine 2 took over -1.0 s after enough hosts were back, and nobody may within 0.0'
+site site_off 1 2 184 'OUT OF BOUNDS: machine 2 took over 38.0 s after enough hosts were back, and 37.0 is the most'
+site site_off 1 2 150 'OUT OF BOUNDS: machine 3 was reset' '151.000 3 reset'
+site site_returns 0 3 163 ''
+site site_returns 1 3 161 'OUT OF BOUNDS: machine 3 took over 15.0 s after enough hosts were back, and nobody may within 15.8'
+site site_returns 1 2 120 'OUT OF BOUNDS: machine 2 took over -26.0 s after enough hosts were back, and nobody may within 15.8'
 bounded 1 hang 1 '90.000 1 sign 1 1\n' 'OUT OF BOUNDS: the scene has no fault'
 # with --first the fault is one of another machine
 printf '90.000 2 sign 1 1\n100.000 scene fault it is killed\n106.000 2 sign 1 2\n107.000 2 reset\n122.000 1 sign 1 1\n' > events
