@@ -25,6 +25,7 @@ ROWS = {
     "bench/soak-nodes": "2 2 help 2 2 2 2 2",
     "bench/quiet": "2 2 help 2 2 2 2 2",
     "bench/names": "2 2 help 2 2 2 2 2",
+    "bench/boots": "2 2 help 2 2 - - 2",
     "bench/take-overs": "2 2 help 2 2 2 2 2",
     "bench/budget": "- 2 help 2 2 2 2 2",
     "bench/gate": "- - help - - - - -",
