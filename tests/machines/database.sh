@@ -84,11 +84,11 @@ has_rows() { [ "$(wc -l < "$room/acknowledged")" -ge "$1" ]; }
 # writes_again SECONDS: so many seconds at most, and rows are acknowledged again
 writes_again() { until_true "$1" has_rows $(($(wc -l < "$room/acknowledged") + 5)); }
 
-# lost_rows: how many rows that were acknowledged are not there
-lost_rows() {
-    cut -d ' ' -f 1 "$room/acknowledged" | sort > "$room/wanted"
-    sql 'select number from rows' > "$room/found" || return 1
-    sort "$room/found" | comm -23 "$room/wanted" - | wc -l
+# rows_now [N]: what is said of the rows that were acknowledged, of all or after the first N, and of those that are lost
+rows_now() {
+    cp "$room/acknowledged" "$room/wanted" # the writer goes on
+    sql 'select number from rows' > "$room/found" || { echo 'the database does not say its rows' >&2; return 1; }
+    "$here/../judge-rows" --from "${1:-0}" "$room/wanted" "$room/found"
 }
 
 # sums: of the accounts, the tellers, the branches and the history of pgbench, at one moment
@@ -105,13 +105,7 @@ sums_agree() {
 }
 
 # judge_rows: no row is lost that was acknowledged, and the sums of pgbench agree
-judge_rows() {
-    local lost
-    lost=$(lost_rows) || { echo 'the database does not say its rows'; return 1; }
-    awk 'NR > 1 && $2 - last > longest { longest = $2 - last } { last = $2 } END { print NR, "rows acknowledged, the longest time without one", longest, "ms" }' "$room/acknowledged"
-    [ "$lost" = 0 ] || { echo "rows that were acknowledged and are lost: $lost"; return 1; }
-    sums_agree || { echo 'the sums of pgbench differ'; return 1; }
-}
+judge_rows() { rows_now && { sums_agree || { echo 'the sums of pgbench differ'; return 1; }; }; }
 
 # The holder's power is gone for a moment: the next holder has each row that was acknowledged.
 scene_database_power_cut() {
@@ -189,13 +183,13 @@ times_of() {
 
 # record NUMBER KIND VICTIM ROWS: its line, once a take-over is over; ROWS is how many were acknowledged at its fault
 record() {
-    local word=passed lost=unknown sums=differ
+    local word=passed rows lost longest sums=differ
     "$here/judge" --scene "$(bounds_of "$2")" --times "$TIMES" --slow "$slow" --first "$3" "$room/round" | grep 'OUT OF BOUNDS\|TWO OWNERS' && word=FAILED
-    lost=$(lost_rows) && [ "$lost" = 0 ] || word=FAILED
+    read -r rows _ _ lost _ longest _ < <(rows_now "$4") || rows=0 lost=unknown longest=0
+    [ "$lost" = 0 ] || word=FAILED
     sums_agree && sums=agree || word=FAILED
-    printf '%s\t%s\t%s\t%s\t%s\t%s\t%s\t%s\t%s\t%s\n' "$1" "$2" "$3" "$(times_of "$3")" \
-        "$(awk -v from="$4" 'NR > from && NR > 1 && $2 - last > longest { longest = $2 - last } { last = $2 } END { printf "%d\t%d", longest, NR - from }' "$room/acknowledged")" \
-        "$lost" "$sums" "$word" "$(date -u +%FT%TZ)" "$way" >> "$TAKE_OVERS"
+    printf '%s\t' "$1" "$2" "$3" "$(times_of "$3")" "$longest" "$rows" "$lost" "$sums" "$word" "$(date -u +%FT%TZ)" >> "$TAKE_OVERS"
+    echo "$way" >> "$TAKE_OVERS"
 }
 
 # take_over NUMBER: one of them, from a cluster in which all is well to the next one

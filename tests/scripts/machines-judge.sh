@@ -113,6 +113,24 @@ status=0
 "$TOP/tests/machines/judge" --scene hang --times 8000,16000,1500,3000,1000 events > said || status=$?
 same "$status $(grep -c '^OUT OF BOUNDS' said)" '1 3'
 
+# rows STATUS 'ACKNOWLEDGED' 'FOUND' 'LINE..' [WORD..]: what is said of rows
+rows() {
+    local status=0 want=$1 lines=$4
+    printf "$2" > acknowledged
+    printf "$3" > found
+    shift 4
+    "$TOP/tests/judge-rows" "$@" acknowledged found > said || status=$?
+    same "$status" "$want"
+    same "$(paste -sd '|' said)" "$lines"
+}
+
+rows 0 '1 1000\n2 1050\n4 31050\n5 31100\n' '1\n2\n3\n4\n5\n' '4 rows acknowledged, 0 lost, 30000 ms the longest time without one'
+rows 1 '1 1000\n2 1050\n4 31050\n5 31100\n' '1\n5\n' '4 rows acknowledged, 2 lost, 30000 ms the longest time without one|2 acknowledged rows are LOST'
+# after the first two, the time since the second one; after three, of which one is lost
+rows 0 '1 1000\n2 1050\n4 31050\n5 31100\n' '1\n2\n4\n5\n' '2 rows acknowledged, 0 lost, 30000 ms the longest time without one' --from 2
+rows 1 '1 1000\n2 1050\n4 31050\n5 31100\n' '2\n4\n5\n' '1 rows acknowledged, 1 lost, 50 ms the longest time without one|1 acknowledged rows are LOST' --from 3
+rows 77 '' '1\n' '0 rows acknowledged, 0 lost, 0 ms the longest time without one|no row was acknowledged'
+
 # each scene has its line of bounds, or is one that begins no machine, or loses others than machine 1, or is judged by `quorums`
 (. "$TOP/tests/machines/scenes.sh" && . "$TOP/tests/machines/arbiter.sh" && . "$TOP/tests/machines/database.sh" && printf '%s\n' "${all_scenes[@]}") | sort > scenes
 grep -v '^#' "$TOP/tests/machines/bounds" | cut -f 1 | sort > bounded

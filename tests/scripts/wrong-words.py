@@ -60,6 +60,7 @@ ROWS = {
     "tests/hosts/handovers": "2 2 help 2 2 2 2 2",
     "tests/hosts/judge": "2 2 help 2 2 2 2 2",
     "tests/hosts/watchdog": "1 1 1 1 1 1 1 1",
+    "tests/judge-rows": "2 2 help 2 2 2 2 2",
     "tests/liars": "2 2 2 2 2 2 2 2",
     "tests/machines/halt-under-systemd": "2 2 2 2 2 2 2 2",
     "tests/machines/hypervisor": "2 2 help 2 - 2 2 2",
