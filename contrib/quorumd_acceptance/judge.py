@@ -230,7 +230,9 @@ def taken_over(evidence, wanted):
     if wanted.start is None:
         return
     since, after = new.first - counted_from(evidence, wanted), "the fault" if wanted.seen is None else "enough hosts were back"
-    if wanted.start.least is not None and since < wanted.start.least:
+    if wanted.start.least is not None and since < 0:
+        yield failed("%s took over before enough hosts were back", new.host)
+    elif wanted.start.least is not None and since < wanted.start.least:
         yield failed("%s took over %.1f s after %s, and nobody may within %.1f", new.host, since, after, wanted.start.least)
     if wanted.start.most is not None and since > wanted.start.most:
         yield failed("%s took over %.1f s after %s, and %.1f is the most", new.host, since, after, wanted.start.most)

@@ -97,12 +97,15 @@ sums() {
         (select coalesce(sum(delta), 0) from pgbench_history), (select count(*) from pgbench_history)'
 }
 
-# sums_agree: the four are the same
+# sums_agree: the four are the same. A database that was just started may answer late
 sums_agree() {
     local accounts tellers branches history count
-    IFS='|' read -r accounts tellers branches history count < <(sums) && echo "pgbench: $accounts $tellers $branches $history, $count transactions" &&
-        [ "$accounts" = "$tellers" ] && [ "$accounts" = "$branches" ] && [ "$accounts" = "$history" ]
+    until_true 100 has_sums || return 1
+    IFS='|' read -r accounts tellers branches history count < "$room/sums"
+    echo "pgbench: $accounts $tellers $branches $history, $count transactions"
+    [ "$accounts" = "$tellers" ] && [ "$accounts" = "$branches" ] && [ "$accounts" = "$history" ]
 }
+has_sums() { sums > "$room/sums"; }
 
 # judge_rows: no row is lost that was acknowledged, and the sums of pgbench agree
 judge_rows() { rows_now && { sums_agree || { echo 'the sums of pgbench differ'; return 1; }; }; }
@@ -142,7 +145,7 @@ befall() {
     hang) order "$2" 'kill -STOP $(cat /run/node)' ;;
     panic) order "$2" 'echo c > /proc/sysrq-trigger' ;;
     cable) ip -n "$tag" link set "t$2" nomaster ;;
-    message) order $(($2 % 3 + 1)) "quorumd message --image $image --id $2 --kind reset" ;;
+    message) leave_for "$2" reset ;;
     esac
 }
 
@@ -188,6 +191,7 @@ record() {
     read -r rows _ _ lost _ longest _ < <(rows_now "$4") || rows=0 lost=unknown longest=0
     [ "$lost" = 0 ] || word=FAILED
     sums_agree && sums=agree || word=FAILED
+    [ -s "$room/sums" ] || sums=unknown
     printf '%s\t' "$1" "$2" "$3" "$(times_of "$3")" "$longest" "$rows" "$lost" "$sums" "$word" "$(date -u +%FT%TZ)" >> "$TAKE_OVERS"
     echo "$way" >> "$TAKE_OVERS"
 }

@@ -240,10 +240,13 @@ scene_long_sectors_unsaid() {
     nobody_owns && resets_are 0 0 0
 }
 
+# leave_for N KIND: the machine after it leaves a message for the node of machine N, on each image that the disk is of
+leave_for() { order $(($1 % 3 + 1)) "for part in ${image//,/ }; do quorumd message --image \$part --id $1 --kind $2; done"; }
+
 # leave KIND: machine 2 leaves a message for the node of machine 1
 leave() {
     fault "machine 2 leaves $1 for machine 1"
-    order 2 "quorumd message --image $image --id 1 --kind $1"
+    leave_for 1 "$1"
 }
 
 scene_message_test() {

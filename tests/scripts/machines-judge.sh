@@ -99,12 +99,12 @@ site() {
 # from when two machines are back on
 site site_off 0 1 175 ''
 site site_off 0 2 146 ''
-site site_off 1 2 145 'OUT OF BOUNDS: machine 2 took over -1.0 s after enough hosts were back, and nobody may within 0.0'
+site site_off 1 2 145 'OUT OF BOUNDS: machine 2 took over before enough hosts were back'
 site site_off 1 2 184 'OUT OF BOUNDS: machine 2 took over 38.0 s after enough hosts were back, and 37.0 is the most'
 site site_off 1 2 150 'OUT OF BOUNDS: machine 3 was reset' '151.000 3 reset'
 site site_returns 0 3 163 ''
 site site_returns 1 3 161 'OUT OF BOUNDS: machine 3 took over 15.0 s after enough hosts were back, and nobody may within 15.8'
-site site_returns 1 2 120 'OUT OF BOUNDS: machine 2 took over -26.0 s after enough hosts were back, and nobody may within 15.8'
+site site_returns 1 2 120 'OUT OF BOUNDS: machine 2 took over before enough hosts were back'
 bounded 1 hang 1 '90.000 1 sign 1 1\n' 'OUT OF BOUNDS: the scene has no fault'
 # with --first the fault is one of another machine
 printf '90.000 2 sign 1 1\n100.000 scene fault it is killed\n106.000 2 sign 1 2\n107.000 2 reset\n122.000 1 sign 1 1\n' > events
