@@ -1,5 +1,5 @@
-"""The judge of quorumd-acceptance: what was seen in one test, against what has to be so. It has neither clock nor host. Times are seconds of the one clock
-of the machine that runs the tests; nothing that a node says of itself counts."""
+"""The judge of quorumd-acceptance, and of the labs that are played before a release: what was seen in one test, against what has to be so. It has neither clock nor
+host. Times are seconds of the one clock of the machine that runs the tests; nothing that a node says of itself counts."""
 from collections import namedtuple
 from dataclasses import dataclass, field
 
@@ -7,6 +7,8 @@ from dataclasses import dataclass, field
 Sample = namedtuple("Sample", "when host boot began signs")
 Holding = namedtuple("Holding", "host boot first last")
 Life = namedtuple("Life", "boot began first last")
+# a reset of a host that was seen by itself
+Ended = namedtuple("Ended", "when host")
 # a row that was acknowledged, and when
 Row = namedtuple("Row", "when number")
 # how long after the fault, at the least and at the most; None: not asked
@@ -14,7 +16,7 @@ Bound = namedtuple("Bound", "least most")
 Finding = namedtuple("Finding", "verdict text")
 
 PASSED, FAILED, NOT_JUDGED = "passed", "FAILED", "not judged"
-OTHER, SAME, ANY = "another", "the same", "any"
+OTHER, SAME, ANY, NO_OTHER = "another", "the same", "any", "no other"
 HOLE = 2.0  # seconds for which a host may be out of sight within one boot
 SIGHT = 0.5  # between two looks, and what the way to this machine adds
 
@@ -22,19 +24,24 @@ SIGHT = 0.5  # between two looks, and what the way to this machine adds
 @dataclass(frozen=True)
 class Reset:
     """When a host is to be reset: where it was out of sight from the fault on, its next boot begins at most `firmware` later. It may be out of sight in between
-    where `in_sight` is false: its power, its network or its services end before it does."""
+    where `in_sight` is false: its power, its network or its services end before it does. `times` is how often."""
     bound: Bound
     firmware: float = 0.0
     in_sight: bool = True
+    times: Bound = Bound(1, 1)
+
+
+NEVER = Reset(Bound(None, None), times=Bound(0, 0))
 
 
 @dataclass(frozen=True)
 class Wanted:
     """What a test is to show. `start` is the first sign of the next owner after the fault, `gap` the most between the last sign of the old owner and that
     (of the same owner: the most without the service), `silence` the most without an acknowledged row. An owner that went out of sight with its resources has
-    `stop` more. A host in `barred` never holds. Where `seen` is a number, `start` counts from when so many hosts are back."""
+    `stop` more. A host in `barred` never holds. Where `seen` is a number, `start` counts from when so many hosts are back. Where `owner` is None nothing is asked
+    of it; `holder` is who held before the fault, where that is not to be told by what was seen."""
     fault: float
-    owner: str
+    owner: str = None
     resets: dict = field(default_factory=dict)
     start: Bound = None
     gap: float = None
@@ -42,12 +49,23 @@ class Wanted:
     barred: tuple = ()
     seen: int = None
     stop: float = 0.0
+    holder: str = None
+
+
+@dataclass(frozen=True)
+class Sight:
+    """How well hosts are seen: a host may have had a resource for `margin` seconds before it was first seen with it and after the last time; it may be out of sight for
+    `hole` seconds within one boot; and where `whole` is true it is to be in sight from the beginning to the end."""
+    margin: float = 0.0
+    hole: float = HOLE
+    whole: bool = True
 
 
 @dataclass(frozen=True)
 class Evidence:
     """What was seen of the hosts from `begin` to `end`, and the rows that were acknowledged since the last test. `found` are the rows that the database has at the end, None where it did not answer; `rows` is None
-    where no rows are written. `orderly` says of each host that was to stop in order whether its journal of that boot says so, None where it has none."""
+    where no rows are written. `orderly` says of each host that was to stop in order whether its journal of that boot says so, None where it has none. `ends` are the resets where they were seen by themselves,
+    None where only the boots tell them."""
     hosts: tuple
     resources: tuple
     samples: tuple
@@ -56,6 +74,8 @@ class Evidence:
     rows: tuple = None
     found: frozenset = None
     orderly: dict = field(default_factory=dict)
+    ends: tuple = None
+    sight: Sight = Sight()
 
 
 def failed(text, *values):
@@ -96,7 +116,7 @@ def overlaps(evidence):
     held = holdings_of(evidence.samples, evidence.resources)
     for place, one in enumerate(held):
         for two in held[place + 1:]:
-            if one.host != two.host and two.first <= one.last:
+            if one.host != two.host and two.first <= one.last + 2 * evidence.sight.margin:
                 yield failed("TWO OWNERS: %s until %.1f s, %s from %.1f s", one.host, one.last - evidence.begin, two.host, two.first - evidence.begin)
 
 
@@ -108,7 +128,8 @@ def hole_of(evidence, host, wanted):
     for life in lives:
         seen = [sample.when for sample in evidence.samples if sample.host == host and sample.boot == life.boot]
         holes += [after - before for before, after in zip(seen, seen[1:]) if not (ends and life.first <= wanted.fault < after)]
-    return max(holes + [lives[0].first - evidence.begin, evidence.end - lives[-1].last])
+    edges = [lives[0].first - evidence.begin, evidence.end - lives[-1].last] if evidence.sight.whole else []
+    return max(holes + edges)
 
 
 def unseen(evidence, wanted):
@@ -116,7 +137,7 @@ def unseen(evidence, wanted):
     for host in evidence.hosts:
         if not lives_of(evidence.samples, host):
             yield not_judged("%s was never seen", host)
-        elif hole_of(evidence, host, wanted) > HOLE:
+        elif hole_of(evidence, host, wanted) > evidence.sight.hole:
             yield not_judged("%s was out of sight for %.1f s within one boot", host, hole_of(evidence, host, wanted))
 
 
@@ -134,20 +155,26 @@ def reset_took(cut, reset, fault):
     return max(0.0, one.last - fault)
 
 
+def resets_of(evidence, host, reset, fault):
+    """How long after the fault each reset of a host was."""
+    if evidence.ends is not None:
+        return [end.when - fault for end in evidence.ends if end.host == host and end.when >= fault]
+    return [reset_took(cut, reset, fault) for cut in cuts_of(evidence, host, fault)]
+
+
 def resets(evidence, wanted):
-    """Who is to be reset is, in time and once; nobody else is."""
+    """Who is to be reset is, in time and no more often than it may; nobody else is."""
     for host in evidence.hosts:
-        cuts = cuts_of(evidence, host, wanted.fault)
-        reset = wanted.resets.get(host)
-        if reset is None:
-            if cuts:
-                yield failed("%s was reset", host)
-        elif not cuts:
+        reset = wanted.resets.get(host, NEVER)
+        took = resets_of(evidence, host, reset, wanted.fault)
+        if took and reset is NEVER:
+            yield failed("%s was reset", host)
+        elif len(took) < reset.times.least:
             yield failed("%s was NOT RESET", host)
-        else:
-            yield from reset_in_time(host, reset_took(cuts[0], reset, wanted.fault), reset.bound)
-            if len(cuts) > 1:
-                yield failed("%s was reset %d times", host, len(cuts))
+        elif took:
+            yield from reset_in_time(host, took[0], reset.bound)
+            if reset.times.most is not None and len(took) > reset.times.most:
+                yield failed("%s was reset %d times", host, len(took))
 
 
 def reset_in_time(host, took, bound):
@@ -163,21 +190,27 @@ def first_owner(evidence, wanted):
     return before[-1] if before else None
 
 
+def holder_of(evidence, wanted):
+    """The host that held before the fault, if any."""
+    old = first_owner(evidence, wanted)
+    return wanted.holder or (old.host if old else None)
+
+
 def next_owner(evidence, wanted):
     """The first holding after the fault, of another host than before where that is wanted."""
-    old = first_owner(evidence, wanted)
+    old = holder_of(evidence, wanted)
     for holding in holdings_of(evidence.samples, evidence.resources):
-        if holding.first > wanted.fault and (wanted.owner == ANY or holding.host != old.host):
+        if holding.first > wanted.fault and (wanted.owner == ANY or holding.host != old):
             return holding
     return None
 
 
 def counted_from(evidence, wanted):
-    """From when the most of a start counts."""
+    """From when a start counts: where too few hosts came back, from the end."""
     if wanted.seen is None:
         return wanted.fault
     back = sorted(cuts[0][1].first for cuts in (cuts_of(evidence, host, wanted.fault) for host in evidence.hosts) if cuts)
-    return back[wanted.seen - 1] if len(back) >= wanted.seen else wanted.fault
+    return back[wanted.seen - 1] if len(back) >= wanted.seen else evidence.end
 
 
 def most_gap(evidence, wanted, old):
@@ -196,19 +229,27 @@ def taken_over(evidence, wanted):
         yield failed("%s took over after %.1f s, and %.1f is the most", new.host, new.first - old.last, most_gap(evidence, wanted, old))
     if wanted.start is None:
         return
-    if wanted.start.least is not None and new.first - wanted.fault < wanted.start.least:
-        yield failed("%s took over %.1f s after the fault, and nobody may within %.1f", new.host, new.first - wanted.fault, wanted.start.least)
-    since = new.first - counted_from(evidence, wanted)
+    since, after = new.first - counted_from(evidence, wanted), "the fault" if wanted.seen is None else "enough hosts were back"
+    if wanted.start.least is not None and since < 0:
+        yield failed("%s took over before enough hosts were back", new.host)
+    elif wanted.start.least is not None and since < wanted.start.least:
+        yield failed("%s took over %.1f s after %s, and nobody may within %.1f", new.host, since, after, wanted.start.least)
     if wanted.start.most is not None and since > wanted.start.most:
-        yield failed("%s took over %.1f s after %s, and %.1f is the most", new.host, since, "the fault" if wanted.seen is None else "enough hosts were back", wanted.start.most)
+        yield failed("%s took over %.1f s after %s, and %.1f is the most", new.host, since, after, wanted.start.most)
+
+
+def no_other(evidence, wanted):
+    """Nobody but the owner has the resources."""
+    old, held = holder_of(evidence, wanted), holdings_of(evidence.samples, evidence.resources)
+    for other in sorted({holding.host for holding in held if holding.host != old and holding.first > wanted.fault}):
+        yield failed("%s took over, and %s", other, "%s was to go on" % old if wanted.owner == SAME else "nobody was to")
 
 
 def went_on(evidence, wanted):
     """The same host has the resources, and the service, which is the last of them, was away no longer than it may."""
+    yield from no_other(evidence, wanted)
     old = first_owner(evidence, wanted)
     held = holdings_of(evidence.samples, evidence.resources)
-    for other in sorted({holding.host for holding in held if holding.host != old.host and holding.first > wanted.fault}):
-        yield failed("%s took over, and %s was to go on", other, old.host)
     if evidence.end - max(holding.last for holding in held if holding.host == old.host) > HOLE:
         yield failed("nobody holds at the end")
     own = [holding for holding in holdings_of(evidence.samples, evidence.resources[-1:]) if holding.host == old.host]
@@ -220,12 +261,13 @@ def went_on(evidence, wanted):
 
 
 def owners(evidence, wanted):
-    if first_owner(evidence, wanted) is None:
+    if wanted.owner is None:
+        return
+    if holder_of(evidence, wanted) is None:
         yield not_judged("nobody held before the fault")
-    elif wanted.owner == SAME:
-        yield from went_on(evidence, wanted)
-    else:
-        yield from taken_over(evidence, wanted)
+        return
+    deeds = {SAME: went_on, NO_OTHER: no_other, OTHER: taken_over, ANY: taken_over}
+    yield from deeds[wanted.owner](evidence, wanted)
 
 
 def barred(evidence, wanted):

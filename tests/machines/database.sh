@@ -3,7 +3,7 @@
 # shellcheck disable=SC2154,SC2034,SC2016
 # PostgreSQL as the resource of the machines, with its data on a disk that all of them share, and clients beside the machines. Sourced by `machines`.
 CLIENT='host=10.7.0.100 user=postgres dbname=postgres connect_timeout=2 tcp_user_timeout=3000 keepalives_idle=2 keepalives_interval=1 keepalives_count=2'
-database_scenes=(database_power_cut)
+database_scenes=(database_power_cut database_site_off)
 all_scenes+=("${database_scenes[@]}")
 
 # pg NAME WORD..: that program of PostgreSQL
@@ -84,11 +84,11 @@ has_rows() { [ "$(wc -l < "$room/acknowledged")" -ge "$1" ]; }
 # writes_again SECONDS: so many seconds at most, and rows are acknowledged again
 writes_again() { until_true "$1" has_rows $(($(wc -l < "$room/acknowledged") + 5)); }
 
-# lost_rows: how many rows that were acknowledged are not there
-lost_rows() {
-    cut -d ' ' -f 1 "$room/acknowledged" | sort > "$room/wanted"
-    sql 'select number from rows' > "$room/found" || return 1
-    sort "$room/found" | comm -23 "$room/wanted" - | wc -l
+# rows_now [N]: what is said of the rows that were acknowledged, of all or after the first N, and of those that are lost
+rows_now() {
+    cp "$room/acknowledged" "$room/wanted" # the writer goes on
+    sql 'select number from rows' > "$room/found" || { echo 'the database does not say its rows' >&2; return 1; }
+    "$here/../judge-rows" --from "${1:-0}" "$room/wanted" "$room/found"
 }
 
 # sums: of the accounts, the tellers, the branches and the history of pgbench, at one moment
@@ -97,21 +97,18 @@ sums() {
         (select coalesce(sum(delta), 0) from pgbench_history), (select count(*) from pgbench_history)'
 }
 
-# sums_agree: the four are the same
+# sums_agree: the four are the same. A database that was just started may answer late
 sums_agree() {
     local accounts tellers branches history count
-    IFS='|' read -r accounts tellers branches history count < <(sums) && echo "pgbench: $accounts $tellers $branches $history, $count transactions" &&
-        [ "$accounts" = "$tellers" ] && [ "$accounts" = "$branches" ] && [ "$accounts" = "$history" ]
+    until_true 100 has_sums || return 1
+    IFS='|' read -r accounts tellers branches history count < "$room/sums"
+    echo "pgbench: $accounts $tellers $branches $history, $count transactions"
+    [ "$accounts" = "$tellers" ] && [ "$accounts" = "$branches" ] && [ "$accounts" = "$history" ]
 }
+has_sums() { sums > "$room/sums"; }
 
 # judge_rows: no row is lost that was acknowledged, and the sums of pgbench agree
-judge_rows() {
-    local lost
-    lost=$(lost_rows) || { echo 'the database does not say its rows'; return 1; }
-    awk 'NR > 1 && $2 - last > longest { longest = $2 - last } { last = $2 } END { print NR, "rows acknowledged, the longest time without one", longest, "ms" }' "$room/acknowledged"
-    [ "$lost" = 0 ] || { echo "rows that were acknowledged and are lost: $lost"; return 1; }
-    sums_agree || { echo 'the sums of pgbench differ'; return 1; }
-}
+judge_rows() { rows_now && { sums_agree || { echo 'the sums of pgbench differ'; return 1; }; }; }
 
 # The holder's power is gone for a moment: the next holder has each row that was acknowledged.
 scene_database_power_cut() {
@@ -121,9 +118,18 @@ scene_database_power_cut() {
     until_true 60 did 1 reset && taken_over && resets_are 1 0 0 && writes_again 60 && sleep 3 && judge_rows
 }
 
+# The power of a whole site is gone while rows are written, and comes back: whichever machine holds then has each row that was acknowledged.
+scene_database_site_off() {
+    local number
+    DATABASE=1 begun nbd && load && sleep 10 && site_is_off || return 1
+    for number in 1 2 3; do switched_on "$number"; done
+    until_true 150 owner && writes_again 90 && sleep 3 && judge_rows && resets_are 0 0 0
+}
+
 # The campaign, which `bench/take-overs` plays: take-overs on machines that stay on, each second one a power cut. A line of each is written to TAKE_OVERS: its number, what
 # befell which machine, which one took over, seconds from the fault to the reset and to the first sign of another machine (`-`: none), the longest time without a row in
-# milliseconds, the rows that were acknowledged since the fault, those of all that are lost, whether the sums of pgbench agree, the word of the judge, and when it was.
+# milliseconds, the rows that were acknowledged since the fault, those of all that are lost, whether the sums of pgbench agree, the word of the judge, when it was, and the way of
+# the disk.
 TAKE_OVERS=${QUORUMD_TEST_TAKE_OVERS-}
 CUTS=(cut plug)
 OTHERS=(kill hang panic cable message)
@@ -139,7 +145,7 @@ befall() {
     hang) order "$2" 'kill -STOP $(cat /run/node)' ;;
     panic) order "$2" 'echo c > /proc/sysrq-trigger' ;;
     cable) ip -n "$tag" link set "t$2" nomaster ;;
-    message) order $(($2 % 3 + 1)) "quorumd message --image $image --id $2 --kind reset" ;;
+    message) leave_for "$2" reset ;;
     esac
 }
 
@@ -180,13 +186,14 @@ times_of() {
 
 # record NUMBER KIND VICTIM ROWS: its line, once a take-over is over; ROWS is how many were acknowledged at its fault
 record() {
-    local word=passed lost=unknown sums=differ
+    local word=passed rows lost longest sums=differ
     "$here/judge" --scene "$(bounds_of "$2")" --times "$TIMES" --slow "$slow" --first "$3" "$room/round" | grep 'OUT OF BOUNDS\|TWO OWNERS' && word=FAILED
-    lost=$(lost_rows) && [ "$lost" = 0 ] || word=FAILED
+    read -r rows _ _ lost _ longest _ < <(rows_now "$4") || rows=0 lost=unknown longest=0
+    [ "$lost" = 0 ] || word=FAILED
     sums_agree && sums=agree || word=FAILED
-    printf '%s\t%s\t%s\t%s\t%s\t%s\t%s\t%s\t%s\n' "$1" "$2" "$3" "$(times_of "$3")" \
-        "$(awk -v from="$4" 'NR > from && NR > 1 && $2 - last > longest { longest = $2 - last } { last = $2 } END { printf "%d\t%d", longest, NR - from }' "$room/acknowledged")" \
-        "$lost" "$sums" "$word" "$(date -u +%FT%TZ)" >> "$TAKE_OVERS"
+    [ -s "$room/sums" ] || sums=unknown
+    printf '%s\t' "$1" "$2" "$3" "$(times_of "$3")" "$longest" "$rows" "$lost" "$sums" "$word" "$(date -u +%FT%TZ)" >> "$TAKE_OVERS"
+    echo "$way" >> "$TAKE_OVERS"
 }
 
 # take_over NUMBER: one of them, from a cluster in which all is well to the next one

@@ -4,7 +4,7 @@
 # The scenes. Each is a function that fails where something else came than should. Sourced by `machines`.
 all_scenes=(kill_nbd kill_three kill_etcd hang panic power_off cut_nbd cut_three cut_etcd not_heard hears_nobody slow_disk dead_disk dead_server
     one_server_of_three two_servers_of_three leader_killed member_killed wrong_watchdog long_sectors long_sectors_unsaid
-    message_test message_reset message_off message_exit message_crashdump mail_unread forged slewed paused_machine)
+    message_test message_reset message_off message_exit message_crashdump mail_unread forged slewed site_off site_returns paused_machine)
 
 # all_on WAY: three machines that boot
 all_on() {
@@ -44,13 +44,13 @@ by_message() {
     ! did 1 watchdog || { echo 'its watchdog reset it'; return 1; }
 }
 
-# goes_on SECONDS: machine 1 holds for so long and does not stop in between: its signs are of the same holding. Nobody is reset
+# goes_on SECONDS [N]: machine 1, or machine N, holds for so long and does not stop in between: its signs are of the same holding. Nobody is reset
 goes_on() {
-    local before
+    local before who=${2:-1}
     before=$(holding)
     sleep "$1"
-    until_true 5 owns 1 || return 1
-    [ "$(holding)" = "$before" ] || { echo "machine 1 held anew: $before, $(holding)"; return 1; }
+    until_true 5 owns "$who" || return 1
+    [ "$(holding)" = "$before" ] || { echo "machine $who held anew: $before, $(holding)"; return 1; }
     resets_are 0 0 0
 }
 
@@ -240,10 +240,13 @@ scene_long_sectors_unsaid() {
     nobody_owns && resets_are 0 0 0
 }
 
+# leave_for N KIND: the machine after it leaves a message for the node of machine N, on each image that the disk is of
+leave_for() { order $(($1 % 3 + 1)) "for part in ${image//,/ }; do quorumd message --image \$part --id $1 --kind $2; done"; }
+
 # leave KIND: machine 2 leaves a message for the node of machine 1
 leave() {
     fault "machine 2 leaves $1 for machine 1"
-    order 2 "quorumd message --image $image --id 1 --kind $1"
+    leave_for 1 "$1"
 }
 
 scene_message_test() {
@@ -298,6 +301,44 @@ scene_slewed() {
     tell watch 1 "$room/disk"
     tell off 1
     taken_over && resets_are 0 0 0
+}
+
+# site_is_off: the plugs of all machines are pulled, and nobody holds
+site_is_off() {
+    local number
+    fault 'all machines are switched off'
+    for number in 1 2 3; do tell off "$number"; done
+    for number in 1 2 3; do until_true 10 did "$number" off || return 1; done
+    sleep 20
+    nobody_owns
+}
+
+# switched_on N: that machine has its power again, and boots
+switched_on() {
+    note "machine $1 is switched on"
+    tell power "$1"
+}
+
+# A whole site loses its power and has it back: all machines boot at once, and one of them holds.
+scene_site_off() {
+    local number
+    begun nbd && site_is_off || return 1
+    for number in 1 2 3; do switched_on "$number"; done
+    until_true 120 owner && sleep 3 && goes_on 10 "$(owner)"
+}
+
+# The same, and they come back one after the other. One alone holds nothing. The second makes a majority, and holds once the machine that held cannot any more: for all that
+# they know it still runs. That one comes back last, is not reset, and takes nothing.
+scene_site_returns() {
+    local from
+    begun nbd && site_is_off || return 1
+    switched_on 2
+    until_true 90 boots 2 2 && sleep 30 && nobody_owns || return 1
+    switched_on 3
+    until_true 120 another_owns 1 || return 1
+    from=$(($(wc -l < "$room/events") + 1))
+    switched_on 1
+    until_true 120 all_there "$from" && goes_on 10 "$(owner)" && another_owns 1
 }
 
 # A machine that was told to go off stays off.

@@ -24,7 +24,7 @@ judged 0 'neither\n' 'neither\n' ''
 judged 0 '1.000 host1 address,store\n2.000 host1 address\n2.200 host1 -\n2.400 host2 address\n' '' \
     '0.00 host1 has its resources until 1.00|1.40 host2 has its resources until 1.40'
 judged 1 '1.000 host1 address\n1.200 host3 store\n1.400 host1 address\n' '' \
-    '0.00 host1 has its resources until 0.40|0.20 host3 has its resources until 0.20|TWO OWNERS: host1 until 1.40, host3 from 1.20'
+    '0.00 host1 has its resources until 0.40|0.20 host3 has its resources until 0.20|TWO OWNERS: host1 until 0.4 s, host3 from 0.2 s'
 judged 0 '1.000 host1 address\n1.200 host1 -\n1.400 host1 address\n' '' \
     '0.00 host1 has its resources until 0.00|0.40 host1 has its resources until 0.40'
 # a reset ends what a host had, also where nobody looked at it in between
@@ -47,16 +47,16 @@ scene() {
 }
 
 scene hang_node 0 4.4 14.2 ''
-scene hang_node 1 9.6 14.2 'OUT OF BOUNDS: host host1 was reset after 9.60 s, and 6.05 is the most'
-scene hang_node 1 0.4 14.2 'OUT OF BOUNDS: host host1 was reset after 0.40 s, and 3.00 is the least'
+scene hang_node 1 9.6 14.2 'OUT OF BOUNDS: host1 was reset 9.6 s after the fault, and 6.0 is the most'
+scene hang_node 1 0.4 14.2 'OUT OF BOUNDS: host1 was reset 0.4 s after the fault, and 3.0 is the least'
 scene kill_node 0 0.4 14.2 ''
-scene kill_node 1 0.4 6 'OUT OF BOUNDS: another host held after 6.00 s, and 11.90 is the least'
-scene kill_node 1 0.4 - 'OUT OF BOUNDS: another host held never, and 24.00 s is the most'
-scene kill_node 1 - 14.2 'TWO OWNERS: host1 until 40.00, host2 from 24.20|OUT OF BOUNDS: host host1 was reset never, and 3.00 s is the most'
+scene kill_node 1 0.4 6 'OUT OF BOUNDS: host2 took over 6.0 s after the fault, and nobody may within 11.9'
+scene kill_node 1 0.4 - 'OUT OF BOUNDS: NOBODY TOOK OVER'
+scene kill_node 1 - 14.2 'TWO OWNERS: host1 until 40.0 s, host2 from 24.2 s|OUT OF BOUNDS: host1 was NOT RESET'
 
 # a host that nobody looked at for five seconds within one boot
 judged 77 "$(every host1 0 11 store)$(every host2 0 5 -)$(every host2 10 30 -)$(every host2 30.2 40 store)" '10.000 scene fault x\n11.100 host1 reset\n' \
-    '0.00 host1 has its resources until 11.00|30.20 host2 has its resources until 40.00|NOT JUDGED: host2 was not looked at for 5.0 s' \
+    '0.00 host1 has its resources until 11.00|30.20 host2 has its resources until 40.00|NOT JUDGED: host2 was out of sight for 5.0 s within one boot' \
     --scene kill_node --times 5000,10000,1000,2000,1000
 
 # handed STATUS 'LINE..' WORDS..: what is said of the hand-overs in standard input
