@@ -13,7 +13,7 @@ bare_hosts() {
     for n in 1 2 3; do
         in_root "$room/host$n" systemctl -q disable "quorumd@$n.service" && in_root "$room/host$n" systemctl -q unmask postgresql.service || return 1
         rm -f "$room/host$n/etc/quorumd/"{node-$n.env,corosync.conf,key,resources.conf}
-        cp "$package" "$room/host$n/root/"
+        cp "$package" "$room/host$n/root/quorumd_0_amd64.deb" # whatever its name is: the page has one of this form
         power "$n"
     done
     for n in 1 2 3; do has_booted "$n" || return 1; done
@@ -63,8 +63,8 @@ image_etcd() {
     each_host run etcd && until_true 60 on 1 env ETCDCTL_API=3 etcdctl endpoint health
 }
 
-# from_nothing WAY: the page, from its first command to a database that takes rows
-from_nothing() {
+# by_the_page WAY: the page, from its first command to its check, before a node starts
+by_the_page() {
     local n way=$1
     bare_hosts && each_host run install && file /root/corosync.conf 1 && run key 1 || return 1
     for n in 2 3; do cp -p "$room/host1/root/"{corosync.conf,key} "$room/host$n/root/" || return 1; done
@@ -78,6 +78,11 @@ from_nothing() {
         sed -i 's#^WATCHDOG=.*#WATCHDOG=/srv/watchdog/watchdog#; $a WATCHDOG_IS_NO_DEVICE=yes' "$room/host$n/etc/quorumd/node-$n.env"
         run check "$n" || return 1
     done
+}
+
+# from_nothing WAY: the page, from its first command to a database that takes rows. Where it fails before that the hosts are no cluster, and what they had is not judged.
+from_nothing() {
+    by_the_page "$1" || { take_down; judged_from_now; return 1; }
     judged_from_now
     each_host run start && until_true 60 owns 1 && load && until_true 20 on 1 quorumctl status && run look 1 && each_host unit_active
 }
