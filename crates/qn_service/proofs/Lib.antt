@@ -1,3 +1,4 @@
+pub mod Beats
 pub mod Between
 pub mod ByTheImage
 pub mod Company
@@ -7,11 +8,13 @@ pub mod Early
 pub mod Everywhere
 pub mod Flags
 pub mod Followers
+pub mod FreshHellos
 pub mod GoingOn
 pub mod Handing
 pub mod Heard
 pub mod Holders
 pub mod Holding
+pub mod JointClocks
 pub mod KeptLoops
 mod KeptRows
 pub mod KeptViews
@@ -20,6 +23,8 @@ pub mod Least
 pub mod LeftOut
 pub mod LogViews
 pub mod Made
+pub mod NearHellos
+pub mod NearLooks
 pub mod NextLooks
 pub mod OneStop
 pub mod OneView
@@ -30,11 +35,14 @@ pub mod Ranks
 pub mod Resets
 mod Rows
 pub mod ServedBy
+pub mod SaidHellos
 mod ServingRows
 pub mod Shown
+pub mod Sound
 pub mod SpotLogs
 pub mod Steps
 pub mod Timing
 pub mod Tracing
+pub mod TurnSteps
 pub mod Walking
 pub mod WellRows

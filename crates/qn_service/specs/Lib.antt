@@ -1,6 +1,7 @@
 pub mod Between
 pub mod Company
 pub mod Heard
+pub mod Hellos
 pub mod Holders
 pub mod KeptViews
 pub mod Leading

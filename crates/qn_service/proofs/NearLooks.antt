@@ -1,0 +1,392 @@
+-- A look of a running node hears each one that is near it.
+use Rattle.std.proofs.Common.{◌≡◌, ◌⊎◌, inl, inr, ℕ, ◌+◌, ◌*◌, ◌/◌, ◌<◌, ◌≤◌, Bool, true, false, not, ◌||◌, ◌==◌, List, [], ◌∷◌, ◌++◌, Option, Some, length, refl, sym, ◌∙◌, ap, subst, arith}
+use Rattle.std.specs.Prelude.{nat_le}
+use Rattle.std.specs.Option.{option_map_or}
+use Rattle.std.proofs.lemmas.Bool.{cases_lt, eq-eqb, eqb-true, false≢true, le-leb, or_right}
+use Rattle.std.proofs.lemmas.Option.{same_Some}
+use Rattle.qn_model.specs.declared.configuration.Settings.{Settings}
+use Rattle.qn_model.specs.declared.events.Event.{Event}
+use Rattle.qn_model.specs.declared.packets.Packet.{Packet}
+use Rattle.qn_model.specs.declared.packets.Packet.TheVariants as packet
+use Rattle.qn_model.specs.declared.times.Timing.{Timing}
+use Rattle.qn_model.specs.Log.{Line, now}
+use Rattle.qn_model.specs.Moments.{Before, Itself, Later}
+use Rattle.qn_model.specs.NodeOutputs.{with_entry}
+use Rattle.qn_model.specs.Phases.{is_live, phase}
+use Rattle.qn_model.specs.Wanted.{rank_of}
+use Rattle.qn_base.specs.declared.calls.Call.{Call}
+use Rattle.qn_base.specs.declared.ids.Said.{Said}
+use Rattle.qn_base.specs.declared.ids.Standing.{Standing}
+use Rattle.qn_base.specs.declared.ids.View.{View}
+use Rattle.qn_base.specs.Members.{is_member}
+use Rattle.qn_io.specs.Answered.{time_of}
+use Rattle.qn_member.specs.Maker.{is_heard, of_rank}
+use Rattle.qn_member.specs.Naming.{NamingMaker}
+use Rattle.qn_live.specs.declared.place.Choice.{Choice}
+use Rattle.qn_live.specs.Choosing.{told}
+use Rattle.qn_live.specs.Running.{RunState}
+use Rattle.qn_safety.specs.Earlier.{before_joined, before_tail, before_then, before_total}
+use Rattle.qn_joined.specs.Joints.{Happening, Host, IsJoined, joint_after}
+use Rattle.qn_joined.specs.Moves.{EachIsOneEvent}
+use Rattle.qn_joined.specs.Stands.{Acting, Ended, Looking, Parting, Polling, Receiving, Saying, Spot, after_spot, log_at}
+use Rattle.qn_joined.specs.WorldOf.{EveryJointHasAWorld, HasWorld}
+use Rattle.qn_service.specs.Hellos.{IsHeardBy, IsNear, LooksHear, SaidHello, beat_ticks, hello_ticks, packet_chosen, packet_waiting}
+use Rattle.qn_service.specs.Looks.{LookOf, look_at, look_of}
+use Rattle.qn_service.specs.NextLooks.{look_of_rank}
+use Rattle.qn_service.specs.Serving.{clock_at}
+use Rattle.qn_service.specs.Unheard.{log_after}
+use Rattle.qn_service.proofs.ByTheImage.{HeadersReadBack}
+use Rattle.qn_service.proofs.FreshHellos.{HasFresh, KnowsHello, LookIs, NoFarewell, fresh_besides, fresh_leads, fresh_places, look_is, spot_hears, told_fresh}
+use Rattle.qn_service.proofs.JointClocks.{ClockLaws, ClocksRun, Made, ReturnOf, Still, UpStep, clocks_run, read_at, up_step}
+use Rattle.qn_service.proofs.KeptLoops.{loop_of, told_keeps}
+use Rattle.qn_service.proofs.Made.{filtered}
+use Rattle.qn_service.proofs.NearHellos.{makers_loop, old_world}
+use Rattle.qn_service.proofs.RankSteps.{host_after, returned_spot}
+use Rattle.qn_service.proofs.SaidHellos.{hello_said, some_loop, up_leads}
+use Rattle.qn_service.proofs.Sound.{always_sound}
+use Rattle.qn_service.proofs.Tracing.{Traced, traced}
+use Rattle.qn_service.proofs.TurnSteps.{Besides, KnownAt, MakerAt, Places, StepsLead}
+
+-- ## The newest line of a log
+
+-- no line is later than a tick
+abbrev early_places : ℕ → Places
+early_places limit =
+    record {
+      between = λ log had. now log ≤ limit;
+      acting = λ log had. now log ≤ limit;
+      saying = λ sents log had. now log ≤ limit;
+      over = λ log. now log ≤ limit;
+    }
+
+abbrev early_besides : ℕ → Besides
+early_besides limit = record { clock = λ log tick p. tick ≤ limit; sent = λ sent log. Unit {0}; log = λ log. Unit {0}; maker = λ m. Unit {0} }
+
+early_leads : (s : Settings) (me limit : ℕ) → StepsLead s me (early_besides limit) (early_places limit) (early_places limit)
+unfolding with_entry
+early_leads s me limit =
+    record {
+      waits = λ log had known. known;
+      takes = λ log had tick p entry clock order makers known. clock;
+      looks = λ log m tick own p clock order maker known. clock;
+      kept = λ m tick own p known. tt;
+      acts = λ log had known. known;
+      greets = λ log had loop_ms own logged makers known. known;
+      polls = λ sents log had known. known;
+      says = λ sent rest log had says known. known;
+      said = λ log had known. known;
+      stops = λ log had known. known;
+      parts = λ log had known. known;
+      ends = λ log known. known;
+    }
+
+early_in : (limit : ℕ) (spot : Spot) → now (log_at spot) ≤ limit → KnownAt (early_places limit) spot
+early_in limit (Receiving st) early = early
+early_in limit (Looking chosen) early = early
+early_in limit (Acting entry outs o rest st) early = early
+early_in limit (Polling poll sents st) early = early
+early_in limit (Saying sent rest st) early = early
+early_in limit (Parting end sent rest st) early = early
+early_in limit (Ended ran) early = early
+
+early_out : (limit : ℕ) (spot : Spot) → KnownAt (early_places limit) spot → now (log_at spot) ≤ limit
+early_out limit (Receiving st) early = early
+early_out limit (Looking chosen) early = early
+early_out limit (Acting entry outs o rest st) early = early
+early_out limit (Polling poll sents st) early = early
+early_out limit (Saying sent rest st) early = early
+early_out limit (Parting end sent rest st) early = early
+early_out limit (Ended ran) early = early
+
+any_maker : (spot : Spot) → MakerAt (λ m. Unit {0}) spot
+any_maker (Receiving st) = λ m is. tt
+any_maker (Looking chosen) = λ m is. tt
+any_maker (Acting entry outs o rest st) = λ m is. tt
+any_maker (Polling poll sents st) = λ m is. tt
+any_maker (Saying sent rest st) = λ m is. tt
+any_maker (Parting end sent rest st) = tt
+any_maker (Ended ran) = tt
+
+-- ## Numbers
+
+-- a tick is a hundredth of a clock, rounded down; of two clocks the one says how long it was, and the other how far it came
+soon_enough : (beat turn post loop_ms from_old from_new to_old to_new time_old time_new last : ℕ)
+    → 99 * time_new + from_old ≤ from_new + 99 * time_old
+    → to_new + 101 * time_old ≤ 101 * time_new + to_old
+    → from_new / 100 ≤ from_old / 100 + beat
+    → last ≤ to_new / 100 + post + turn
+    → 101 * (beat + turn + post + 4) ≤ 99 * (3 * loop_ms)
+    → last ≤ to_old / 100 + 3 * loop_ms
+soon_enough beat turn post loop_ms from_old from_new to_old to_new time_old time_new last slow fast lately close in_time =
+    omega (arith, slow, fast, lately, close, in_time)
+
+late_enough : (beat turn post from_old from_new to_mid to_new time_old time_mid time_new : ℕ)
+    → 99 * time_mid + from_old ≤ from_new + 99 * time_old
+    → 99 * time_new + to_mid ≤ to_new + 99 * time_mid
+    → to_new / 100 ≤ to_mid / 100 + post + turn
+    → 100 * (beat + turn + post + 4) + 99 * time_old ≤ 99 * time_new
+    → from_old / 100 + beat < from_new / 100
+late_enough beat turn post from_old from_new to_mid to_new time_old time_mid time_new first second close late =
+    omega (arith, first, second, close, late)
+
+starts_before : (beat turn post to_old to_new time_old time_new : ℕ)
+    → 99 * time_new + to_old ≤ to_new + 99 * time_old
+    → 100 * (beat + turn + post + 4) + 99 * time_old ≤ 99 * time_new
+    → to_old / 100 + post < to_new / 100
+starts_before beat turn post to_old to_new time_old time_new slow late = omega (arith, slow, late)
+
+ticks_grow : (old new : ℕ) → old ≤ new → old / 100 ≤ new / 100
+ticks_grow old new grows = omega (arith, grows)
+
+-- ## One rank near another one
+
+module _ (s : Settings) (t : Timing) (worlds : EveryJointHasAWorld s t) (one : EachIsOneEvent s t) (back : HeadersReadBack) (laws : ClockLaws)
+    (image : ℕ → List ℕ) (turn post from to : ℕ) (newer older : List Happening) (joined : IsJoined s t image (newer ++ older))
+    (near : IsNear s t image turn post from to older (newer ++ older)) where
+  abbrev all : List Happening
+  all = newer ++ older
+
+  has : HasWorld s t (joint_after s image older)
+  has = old_world s t worlds back image newer older joined
+
+  it : Traced s t image older has.events (newer ++ older)
+  it = traced s t one joined.fits image newer older joined.may has
+
+  from_runs : (a b : List Happening) → Before older a → Before a b → Before b all → ClocksRun s image from a b
+  from_runs = clocks_run s t image from older all has.events it.events laws it.trace joined.may (λ at since until. (near.sender at since until).is)
+
+  to_runs : (a b : List Happening) → Before older a → Before a b → Before b all → ClocksRun s image to a b
+  to_runs = clocks_run s t image to older all has.events it.events laws it.trace joined.may (λ at since until. (near.hearer at since until).is)
+
+  to_grows : (a b : List Happening) → Before older a → Before a b → Before b all → clock_at s image a to ≤ clock_at s image b to
+  to_grows a b since order until =
+      ticks_grow (host_after s image to a).clock (host_after s image to b).clock (to_runs a b since order until).grows
+
+  to_step : (newest : Happening) (at : List Happening) → Before older at → Before (newest ∷ at) all → UpStep s t image to newest at
+  to_step = up_step s t image to older all has.events it.events laws it.trace joined.may (λ at since until. (near.hearer at since until).is)
+
+  -- a happening takes a turn at most
+  turn_passes : (newest : Happening) (at : List Happening) → Before older at → Before (newest ∷ at) all → clock_at s image (newest ∷ at) to ≤ clock_at s image at to + turn
+  turn_passes newest at since until = omega (arith, paced, read)
+    where
+      paced : clock_at s image (newest ∷ at) to ≤ now (log_after s image (newest ∷ at) to) + turn
+      paced = (near.hearer (newest ∷ at) (Later newest since) until).turns
+
+      limit : ℕ
+      limit = clock_at s image at to
+
+      read : now (log_after s image (newest ∷ at) to) ≤ clock_at s image at to
+      read =
+          early_out limit (host_after s image to (newest ∷ at)).stand.spot
+          (up_leads s t image to newest at (early_besides limit) (early_places limit) (early_places limit) (early_leads s to limit) (to_step newest at since until)
+          (λ chosen is tick told. omega (arith, told)) (λ sent rest st is says. tt) tt (any_maker (host_after s image to at).stand.spot)
+          (early_in limit (host_after s image to at).stand.spot
+          (read_at s t image to older all has.events it.events laws it.trace joined.may (λ h a b. (near.hearer h a b).is) at since (before_tail until))))
+
+  -- the last joint from which on the way of a packet is over before a tick
+  record LastBefore (last : ℕ) (new : List Happening) : Type 0 where
+    at : List Happening
+    since : Before older at
+    until : Before at new
+    early : clock_at s image at to + post < last
+    close : last ≤ clock_at s image at to + post + turn
+
+  last_before : (last : ℕ) (at : List Happening) → Before older at → Before at all → clock_at s image older to + post < last → last ≤ clock_at s image at to + post → LastBefore last at
+  last_before last at Itself until starts reach = absurd (omega (arith, starts, reach))
+  last_before last (newest ∷ at) (Later same since) until starts reach =
+      by_order (cases_lt (clock_at s image at to + post) last) (λ far. last_before last at since (before_tail until) starts far)
+    where
+      by_order : (clock_at s image at to + post < last) ⊎ (last ≤ clock_at s image at to + post) → (last ≤ clock_at s image at to + post → LastBefore last at)
+          → LastBefore last (newest ∷ at)
+      by_order (inl early) rest =
+          let passes = turn_passes newest at since until in
+          record { at = at; since = since; until = Later newest Itself; early = early; close = omega (arith, reach, passes) }
+      by_order (inr far) rest =
+          let found = rest far in
+          record { at = found.at; since = found.since; until = Later newest found.until; early = found.early; close = found.close }
+
+  -- ## What was heard goes on
+
+  stays_at : (at : List Happening) → Before older at → Before at all → (chosen : Choice × RunState) → (host_after s image to at).stand.spot ≡ Looking chosen
+      → NoFarewell from (packet_chosen chosen.0)
+  stays_at at since until chosen is view comes = near.stays at view since until (ap packet_waiting is ∙ comes)
+
+  fresh_on : (since : ℕ) (base at : List Happening) → Before older base → Before base at → Before at all
+      → KnownAt (fresh_places from since) (host_after s image to base).stand.spot → KnownAt (fresh_places from since) (host_after s image to at).stand.spot
+  fresh_on since base at after Itself until known = known
+  fresh_on since base (newest ∷ at) after (Later same order) until known =
+      up_leads s t image to newest at (fresh_besides s from) (fresh_places from since) (fresh_places from since) (fresh_leads s to from since)
+      (to_step newest at (before_then after order) until)
+      (λ chosen is tick told. stays_at at (before_then after order) (before_tail until) chosen is) (λ sent rest st is says. tt)
+      (ap is_live (near.hearer (newest ∷ at) (Later newest (before_then after order)) until).is.up) (any_maker (host_after s image to at).stand.spot)
+      (fresh_on since base at after order (before_tail until) known)
+
+  -- a look of the rank is a call that returned
+  look_made : (newest : Happening) (at : List Happening) (look : LookOf) → Before older at → Before (newest ∷ at) all → look_of_rank s image to newest at ≡ Some look
+      → (r : ReturnOf s t image to newest at) × (look_at to (host_after s image to at).stand.spot r.made ≡ Some look)
+  look_made newest at look since until found = by_step (to_step newest at since until)
+    where
+      parts : (look_of s image newest at ≡ Some look) × ((look.rank == to) ≡ true)
+      parts = filtered (λ (l : LookOf). l.rank == to) (look_of s image newest at) look found
+
+      by_step : UpStep s t image to newest at → (r : ReturnOf s t image to newest at) × (look_at to (host_after s image to at).stand.spot r.made ≡ Some look)
+      by_step (Still same none) = absurd (false≢true (sym (none look parts.0) ∙ parts.1))
+      by_step (Made r) = (r, sym r.looks ∙ parts.0)
+
+  look_tick : (newest : Happening) (at : List Happening) (look : LookOf) → Before older at → Before (newest ∷ at) all → look_of_rank s image to newest at ≡ Some look
+      → look.tick ≡ clock_at s image at to
+  look_tick newest at look since until found =
+      let made = look_made newest at look since until found in
+      let is = look_is to (host_after s image to at).stand.spot made.0.made look made.1 in
+      is.tick ∙ made.0.told is.chosen is.is
+
+  -- a Hello that a look heard is known after it
+  heard_then : (p : Packet) (limit : ℕ) (since : List Happening) → Before older since → (h : IsHeardBy s image to p limit since all)
+      → (said : Said) (standing : Standing) → p ≡ packet.Heard (rank_of from) said standing
+      → KnownAt (fresh_places from h.look.tick) (host_after s image to (h.happening ∷ h.at)).stand.spot
+  heard_then p limit since after h said standing is =
+      subst (KnownAt (fresh_places from h.look.tick)) (sym there)
+      (spot_hears s to from near.configured.0 joined.fits.few said standing h.look host.leave host.stand.turn host.stand.more host.stand.spot made.0.made made.1
+      (h.hears ∙ ap Some is) (always_sound s image to h.at)
+      (subst (λ (spot : Spot). is_live (phase s (log_at spot)) ≡ true) there
+      (ap is_live (near.hearer (h.happening ∷ h.at) (Later h.happening (before_then after h.after)) h.back).is.up)))
+    where
+      host : Host
+      host = host_after s image to h.at
+
+      made : (r : ReturnOf s t image to h.happening h.at) × (look_at to (host_after s image to h.at).stand.spot r.made ≡ Some h.look)
+      made = look_made h.happening h.at h.look (before_then after h.after) h.back h.is
+
+      there : (host_after s image to (h.happening ∷ h.at)).stand.spot ≡ (after_spot s to host.leave host.stand.turn host.stand.more host.stand.spot made.0.made).spot
+      there = made.0.stand ∙ returned_spot s to (joint_after s image h.at).time host made.0.made
+
+  -- ## A look
+
+  module _ (at : List Happening) (happening : Happening) (look : LookOf) (since : Before older at) (until : Before (happening ∷ at) all)
+      (found : look_of_rank s image to happening at ≡ Some look)
+      (late : 100 * hello_ticks t turn post + 99 * (joint_after s image older).time ≤ 99 * (joint_after s image at).time) where
+    until_at : Before at all
+    until_at = before_tail until
+
+    mid : LastBefore (clock_at s image at to) at
+    mid =
+        last_before (clock_at s image at to) at since until_at
+        (starts_before (beat_ticks t turn) turn post (host_after s image to older).clock (host_after s image to at).clock (joint_after s image older).time (joint_after s image at).time
+        (to_runs older at Itself since until_at).slow late)
+        (omega arith)
+
+    hello : SaidHello s image from to (beat_ticks t turn) older mid.at
+    hello =
+        hello_said s t image turn from to older all has.events it.events laws it.trace joined.may near.sender
+        (makers_loop s t worlds back image newer older joined turn from near.sender) near.configured.1 near.apart (some_loop t joined.fits.times)
+        mid.at mid.since (before_then mid.until until_at)
+        (late_enough (beat_ticks t turn) turn post (host_after s image from older).clock (host_after s image from mid.at).clock (host_after s image to mid.at).clock
+        (host_after s image to at).clock (joint_after s image older).time (joint_after s image mid.at).time (joint_after s image at).time
+        (from_runs older mid.at Itself mid.since (before_then mid.until until_at)).slow (to_runs mid.at at mid.since mid.until until_at).slow mid.close late)
+
+    said_before : Before hello.at at
+    said_before = before_then (before_tail hello.back) mid.until
+
+    said_until : Before (hello.happening ∷ hello.at) all
+    said_until = before_then hello.back (before_then mid.until until_at)
+
+    comes_before : clock_at s image hello.at to + post < clock_at s image at to
+    comes_before =
+        let grows = to_grows hello.at mid.at hello.after (before_tail hello.back) (before_then mid.until until_at) in
+        let early = mid.early in
+        omega (arith, grows, early)
+
+    heard_it : IsHeardBy s image to (packet.Heard (rank_of from) hello.said hello.standing) (clock_at s image hello.at to + post) (hello.happening ∷ hello.at) all
+    heard_it =
+        near.come hello.at hello.happening (packet.Heard (rank_of from) hello.said hello.standing) hello.after said_until hello.says
+        (let grows = to_grows at all since until_at Itself in let before = comes_before in omega (arith, grows, before))
+
+    heard_since : Before older heard_it.at
+    heard_since = before_then (Later hello.happening hello.after) heard_it.after
+
+    -- it was heard before the look
+    never : Before at heard_it.at → ⊥
+    never order =
+        let grows = to_grows at heard_it.at since order (before_tail heard_it.back) in
+        let soon = heard_it.soon in
+        let before = comes_before in
+        omega (arith, grows, soon, before)
+
+    by_newest : {h : List Happening} → Before at h → h ≡ heard_it.happening ∷ heard_it.at → Before (heard_it.happening ∷ heard_it.at) at
+    by_newest Itself is = subst (λ (h : List Happening). Before h at) is Itself
+    by_newest (Later more {new = earlier} up_to) is = absurd (never (subst (λ (h : List Happening). Before at h) (tail_of is) up_to))
+      where
+        tail_of : {a b : Happening} {first second : List Happening} → a ∷ first ≡ b ∷ second → first ≡ second
+        tail_of e = cc
+
+    heard_before : Before (heard_it.happening ∷ heard_it.at) at
+    heard_before = by_place (before_total heard_it.back until_at)
+      where
+        by_place : Before (heard_it.happening ∷ heard_it.at) at ⊎ Before at (heard_it.happening ∷ heard_it.at) → Before (heard_it.happening ∷ heard_it.at) at
+        by_place (inl earlier) = earlier
+        by_place (inr later) = by_newest later refl
+
+    heard_tick : heard_it.look.tick ≡ clock_at s image heard_it.at to
+    heard_tick = look_tick heard_it.happening heard_it.at heard_it.look heard_since heard_it.back heard_it.is
+
+    known : KnownAt (fresh_places from heard_it.look.tick) (host_after s image to at).stand.spot
+    known =
+        fresh_on heard_it.look.tick (heard_it.happening ∷ heard_it.at) at (Later heard_it.happening heard_since) heard_before until_at
+        (heard_then (packet.Heard (rank_of from) hello.said hello.standing) (clock_at s image hello.at to + post) (hello.happening ∷ hello.at) (Later hello.happening hello.after)
+        heard_it hello.said hello.standing refl)
+
+    in_time : clock_at s image at to ≤ heard_it.look.tick + 3 * t.loop_ms
+    in_time =
+        let enough = soon_enough (beat_ticks t turn) turn post t.loop_ms (host_after s image from hello.at).clock (host_after s image from mid.at).clock
+        (host_after s image to hello.at).clock (host_after s image to mid.at).clock (joint_after s image hello.at).time (joint_after s image mid.at).time
+        (clock_at s image at to)
+        (from_runs hello.at mid.at hello.after (before_tail hello.back) (before_then mid.until until_at)).slow
+        (to_runs hello.at mid.at hello.after (before_tail hello.back) (before_then mid.until until_at)).fast
+        hello.soon mid.close near.fast in
+        let grows = to_grows hello.at heard_it.at hello.after (before_tail heard_it.after) (before_tail heard_it.back) in
+        let told = heard_tick in
+        omega (arith, enough, grows, told)
+
+    made : (r : ReturnOf s t image to happening at) × (look_at to (host_after s image to at).stand.spot r.made ≡ Some look)
+    made = look_made happening at look since until found
+
+    is : LookIs (host_after s image to at).stand.spot made.0.made look
+    is = look_is to (host_after s image to at).stand.spot made.0.made look made.1
+
+    fresh : HasFresh from heard_it.look.tick is.chosen.1.log is.chosen.1.maker
+    fresh = subst (KnownAt (fresh_places from heard_it.look.tick)) is.is known
+
+    tick_is : time_of made.0.made ≡ clock_at s image at to
+    tick_is = made.0.told is.chosen is.is
+
+    before_knows : KnowsHello from heard_it.look.tick is.before.maker.hellos
+    before_knows =
+        subst (λ (k : NamingMaker). KnowsHello from heard_it.look.tick k.maker.hellos)
+        (same_Some fresh.maker is.before (sym fresh.is ∙ is.had)) fresh.knows
+
+    knows : KnowsHello from heard_it.look.tick look.maker.maker.hellos
+    knows =
+        subst (λ (m : NamingMaker). KnowsHello from heard_it.look.tick m.maker.hellos) (sym is.told)
+        (told_fresh from heard_it.look.tick (time_of made.0.made) is.own (packet_chosen is.chosen.0) is.before
+        (let grows = to_grows heard_it.at at heard_since (before_tail heard_before) until_at in let told = heard_tick in let here = tick_is in omega (arith, grows, told, here))
+        (stays_at at since until_at is.chosen is.is) before_knows)
+
+    loop_is : look.maker.maker.loop_ms ≡ t.loop_ms
+    loop_is =
+        ap loop_of is.told ∙ told_keeps (time_of made.0.made) is.own (packet_chosen is.chosen.0) is.before
+        ∙ subst (MakerAt (λ m. loop_of m ≡ t.loop_ms)) is.is (makers_loop s t worlds back image newer older joined turn to near.hearer at since until_at) is.before is.had
+
+    pub look_hears : is_heard look.tick look.maker.maker from ≡ true
+    look_hears =
+        or_right (from == look.maker.maker.me) _
+        (ap (λ o. option_map_or (λ heard. nat_le look.tick (heard + 3 * look.maker.maker.loop_ms)) o false) knows.is
+        ∙ le-leb look.tick (knows.tick + 3 * look.maker.maker.loop_ms) soon)
+      where
+        soon : look.tick ≤ knows.tick + 3 * look.maker.maker.loop_ms
+        soon =
+            let same = is.tick in let here = tick_is in let late_then = knows.late in let enough = in_time in let loop = loop_is in
+            omega (arith, same, here, late_then, enough, loop)
+
+pub looks_hear : (s : Settings) (t : Timing) → EveryJointHasAWorld s t → EachIsOneEvent s t → HeadersReadBack → ClockLaws → LooksHear s t
+looks_hear s t worlds one back laws image turn post from to newer older at happening look joined near since until found late =
+    look_hears s t worlds one back laws image turn post from to newer older joined near at happening look since until found late

@@ -1,0 +1,168 @@
+-- What running nodes say to one another, when a look hears it, and how soon. This project's profile.
+use Rattle.std.specs.Prelude.{◌≡◌, ◌≤◌, ◌<◌, ◌+◌, ◌*◌, ◌/◌, ℕ, true, List, ◌∷◌, ◌++◌, length, Option, None, Some, option_map}
+use Rattle.qn_base.specs.declared.ids.Said.{Said}
+use Rattle.qn_base.specs.declared.ids.Standing.{Standing}
+use Rattle.qn_base.specs.declared.ids.View.{View}
+use Rattle.qn_base.specs.Members.{is_member}
+use Rattle.qn_model.specs.declared.configuration.Settings.{Settings}
+use Rattle.qn_model.specs.declared.packets.Packet.{Packet}
+use Rattle.qn_model.specs.declared.packets.Packet.TheVariants as packet
+use Rattle.qn_model.specs.declared.packets.Sent.{Sent}
+use Rattle.qn_model.specs.declared.times.Timing.{Timing}
+use Rattle.qn_model.specs.Log.{now}
+use Rattle.qn_model.specs.Moments.{Before}
+use Rattle.qn_model.specs.Wanted.{rank_of}
+use Rattle.qn_member.specs.Maker.{is_heard}
+use Rattle.qn_live.specs.declared.place.Choice.{Choice}
+use Rattle.qn_live.specs.declared.place.Choice.TheVariants as choice
+use Rattle.qn_joined.specs.Joints.{Begins, Ends, Feeds, Happening, IsJoined, Lands, LandsLate, Looks, Operates, Passes, Returns, joint_after}
+use Rattle.qn_joined.specs.Stands.{Acting, Ended, Looking, Parting, Polling, Receiving, Saying, Spot}
+use Rattle.qn_service.specs.KeptViews.{IsUpAt}
+use Rattle.qn_service.specs.Looks.{LookOf}
+use Rattle.qn_service.specs.NextLooks.{look_of_rank}
+use Rattle.qn_service.specs.Serving.{clock_at}
+use Rattle.qn_service.specs.Unheard.{log_after}
+
+-- ## What is said
+
+-- the packet of the view maker that a run is about to send, with its receiver
+abbrev pub sent_next : Spot → Option Sent
+sent_next (Saying sent rest st) = Some sent
+sent_next (Receiving st) = None
+sent_next (Looking chosen) = None
+sent_next (Acting entry outs o rest st) = None
+sent_next (Polling poll sents st) = None
+sent_next (Parting end sent rest st) = None
+sent_next (Ended ran) = None
+
+-- what a happening says, where the joint before was that of these: who says it, and the packet with its receiver
+abbrev pub said_in : Settings → (ℕ → List ℕ) → Happening → List Happening → Option (ℕ × Sent)
+said_in s image (Returns rank made) earlier =
+    option_map (λ sent. (rank, sent)) (sent_next ((joint_after s image earlier).hosts rank).stand.spot)
+said_in s image (Looks rank base) earlier = None
+said_in s image (Passes dt clocks) earlier = None
+said_in s image (Begins rank clean leave polls turns) earlier = None
+said_in s image (Lands rank) earlier = None
+said_in s image (Feeds rank) earlier = None
+said_in s image (LandsLate rank number) earlier = None
+said_in s image (Ends rank) earlier = None
+said_in s image (Operates rank sent) earlier = None
+
+-- what happens after a joint is that one rank says a packet to another one
+abbrev pub Says : Settings → (ℕ → List ℕ) → ℕ → ℕ → Packet → Happening → List Happening → Type 0
+Says s image from to packet newest earlier =
+    said_in s image newest earlier ≡ Some (from, record { to = rank_of to; packet = packet })
+
+-- ## What is heard
+
+-- the packet that a turn takes to its look
+abbrev pub packet_chosen : Choice → Option Packet
+packet_chosen (choice.Open p) = p
+packet_chosen (choice.Whole entry) = None
+packet_chosen (choice.Answer reply) = None
+
+abbrev pub packet_waiting : Spot → Option Packet
+packet_waiting (Looking chosen) = packet_chosen chosen.0
+packet_waiting (Receiving st) = None
+packet_waiting (Acting entry outs o rest st) = None
+packet_waiting (Polling poll sents st) = None
+packet_waiting (Saying sent rest st) = None
+packet_waiting (Parting end sent rest st) = None
+packet_waiting (Ended ran) = None
+
+-- the packet that a rank is about to hear
+abbrev pub packet_to_hear : Settings → (ℕ → List ℕ) → ℕ → List Happening → Option Packet
+packet_to_hear s image rank happenings = packet_waiting ((joint_after s image happenings).hosts rank).stand.spot
+
+-- a look of a rank between two joints heard a packet, at a joint at which its clock had not passed a tick
+pub record IsHeardBy (s : Settings) (image : ℕ → List ℕ) (rank : ℕ) (packet : Packet) (limit : ℕ) (since new : List Happening) : Type 0 where
+  pub at : List Happening
+  pub happening : Happening
+  pub look : LookOf
+  pub after : Before since at
+  pub back : Before (happening ∷ at) new
+  pub is : look_of_rank s image rank happening at ≡ Some look
+  pub hears : packet_to_hear s image rank at ≡ Some packet
+  pub soon : clock_at s image at rank ≤ limit
+
+-- each packet that one rank says to another one between two joints is heard within so many ticks of the clock of the other, where these pass
+-- before the new joint
+abbrev pub WordsCome : Settings → (ℕ → List ℕ) → ℕ → ℕ → ℕ → List Happening → List Happening → Type 0
+WordsCome s image post from to old new =
+    (at : List Happening) (happening : Happening) (packet : Packet)
+    → Before old at → Before (happening ∷ at) new
+    → Says s image from to packet happening at
+    → clock_at s image at to + post < clock_at s image new to
+    → IsHeardBy s image to packet (clock_at s image at to + post) (happening ∷ at) new
+
+-- between two joints a rank hears no farewell of another one: each announcement of that has it as a member
+abbrev pub HearsNoFarewell : Settings → (ℕ → List ℕ) → ℕ → ℕ → List Happening → List Happening → Type 0
+HearsNoFarewell s image from to old new =
+    (at : List Happening) (view : View)
+    → Before old at → Before at new
+    → packet_to_hear s image to at ≡ Some (packet.Announce (rank_of from) view)
+    → is_member view.members from ≡ true
+
+-- ## How soon
+
+-- a rank at one joint: its machine is on, its node is up, and it was handed an entry within so many ticks
+pub record IsAwake (s : Settings) (image : ℕ → List ℕ) (turn rank : ℕ) (happenings : List Happening) : Type 0 where
+  pub is : IsUpAt s image rank happenings
+  pub turns : clock_at s image happenings rank ≤ now (log_after s image happenings rank) + turn
+
+abbrev pub StaysAwake : Settings → (ℕ → List ℕ) → ℕ → ℕ → List Happening → List Happening → Type 0
+StaysAwake s image turn rank old new = (at : List Happening) → Before old at → Before at new → IsAwake s image turn rank at
+
+-- a Hello of the beat is due half a loop after the last one, and said within a turn and the next one
+abbrev pub beat_ticks : Timing → ℕ → ℕ
+beat_ticks t turn = t.loop_ms / 2 + turn + turn
+
+-- between two joints one rank said a Hello to another one, at most so many ticks of its clock before the new one
+pub record SaidHello (s : Settings) (image : ℕ → List ℕ) (from to limit : ℕ) (old new : List Happening) : Type 0 where
+  pub at : List Happening
+  pub happening : Happening
+  pub said : Said
+  pub standing : Standing
+  pub after : Before old at
+  pub back : Before (happening ∷ at) new
+  pub says : Says s image from to (packet.Heard (rank_of from) said standing) happening at
+  pub soon : clock_at s image new from ≤ clock_at s image at from + limit
+
+-- a node that is up and keeps its pace says a Hello to each other one at each half loop and two turns
+abbrev pub HellosAreSaid : Settings → Timing → Type 0
+HellosAreSaid s t =
+    (image : ℕ → List ℕ) (turn from to : ℕ) (newer older : List Happening)
+    → IsJoined s t image (newer ++ older)
+    → from < length s.nodes
+    → to < length s.nodes
+    → ¬ (to ≡ from)
+    → StaysAwake s image turn from older (newer ++ older)
+    → clock_at s image older from + beat_ticks t turn < clock_at s image (newer ++ older) from
+    → SaidHello s image from to (beat_ticks t turn) older (newer ++ older)
+
+-- the same until it is heard: the way of the packet, and a turn of the other one
+abbrev pub hello_ticks : Timing → ℕ → ℕ → ℕ
+hello_ticks t turn post = beat_ticks t turn + turn + post + 4
+
+-- One rank is near another one from an old joint to a new one: both are up and keep their pace, what the one says is heard in time, and it
+-- says no farewell. A Hello comes within three loops, by clocks of which each may be off by one in a hundred.
+pub record IsNear (s : Settings) (t : Timing) (image : ℕ → List ℕ) (turn post from to : ℕ) (old new : List Happening) : Type 0 where
+  pub configured : (from < length s.nodes) × (to < length s.nodes)
+  pub apart : ¬ (to ≡ from)
+  pub fast : 101 * hello_ticks t turn post ≤ 99 * (3 * t.loop_ms)
+  pub sender : StaysAwake s image turn from old new
+  pub hearer : StaysAwake s image turn to old new
+  pub come : WordsCome s image post from to old new
+  pub stays : HearsNoFarewell s image from to old new
+
+-- then each look hears it, once that time has passed
+abbrev pub LooksHear : Settings → Timing → Type 0
+LooksHear s t =
+    (image : ℕ → List ℕ) (turn post from to : ℕ) (newer older at : List Happening) (happening : Happening) (look : LookOf)
+    → IsJoined s t image (newer ++ older)
+    → IsNear s t image turn post from to older (newer ++ older)
+    → Before older at
+    → Before (happening ∷ at) (newer ++ older)
+    → look_of_rank s image to happening at ≡ Some look
+    → 100 * hello_ticks t turn post + 99 * (joint_after s image older).time ≤ 99 * (joint_after s image at).time
+    → is_heard look.tick look.maker.maker from ≡ true
