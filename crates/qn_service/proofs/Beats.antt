@@ -134,6 +134,7 @@ module _ (s : Settings) (image : ℕ → List ℕ) (from to turn loop_ms : ℕ) 
   beat_besides newest newer =
       record {
         clock = λ log tick p. tick ≤ now log + turn;
+        look = λ tick m. Unit {0};
         sent = λ sent log. (said_in s image newest newer ≡ Some (from, sent)) × (now log ≤ clock_at s image newer from);
         log = λ log. is_live (phase s log) ≡ true;
         maker = λ m. loop_of m ≡ loop_ms;
@@ -252,7 +253,7 @@ module _ (s : Settings) (image : ℕ → List ℕ) (from to turn loop_ms : ℕ) 
             turn_begins (newest ∷ newer) log (with_entry s from log (record { tick = tick; what = entry })) clock (beats_later newest newer 0 log known.0),
             last_later newest newer had known.1,
           );
-          looks = λ log m tick own p clock order maker known. (
+          looks = λ log m tick own p clock looking order maker known. (
             turn_begins (newest ∷ newer) log _ clock (beats_later newest newer 0 log known.0),
             look_last (newest ∷ newer) tick own p m (last_later newest newer (Some m) known.1),
           );

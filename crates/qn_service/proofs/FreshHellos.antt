@@ -1,7 +1,7 @@
 -- A Hello that a look heard counts at each later look of a node that is up, while no farewell comes.
 use Rattle.std.proofs.Common.{◌≡◌, ◌⊎◌, inl, inr, ℕ, suc, zero, ◌+◌, ◌*◌, ◌<◌, ◌≤◌, Bool, true, false, not, ◌&&◌, ◌==◌, List, [], ◌∷◌, Option, None, Some, length, if◌then◌else◌, refl, sym, ◌∙◌, ap, subst, arith}
-use Rattle.std.specs.Prelude.{nat_lt, option_map, slice_set}
-use Rattle.std.proofs.lemmas.Bool.{cases_eq, false≢true, lt-ltb, true≢false}
+use Rattle.std.specs.Prelude.{nat_lt, option_map, slice_index_or, slice_set}
+use Rattle.std.proofs.lemmas.Bool.{and_parts, cases_eq, false≢true, lt-ltb}
 use Rattle.std.proofs.lemmas.List.{get_or-set_same}
 use Rattle.std.proofs.lemmas.Option.{none-some, same_Some}
 use Rattle.qn_base.specs.declared.calls.Call.{Call}
@@ -15,67 +15,96 @@ use Rattle.qn_model.specs.declared.nodelist.NodeEntry.{NodeEntry}
 use Rattle.qn_model.specs.declared.packets.Packet.{Packet}
 use Rattle.qn_model.specs.declared.packets.Packet.TheVariants as packet
 use Rattle.qn_model.specs.Log.{Line, now}
-use Rattle.qn_model.specs.NodeOutputs.{newest_outs, with_entry}
+use Rattle.qn_model.specs.NodeOutputs.{with_entry}
 use Rattle.qn_model.specs.Phases.{is_live, phase}
 use Rattle.qn_model.specs.Wanted.{rank_of}
-use Rattle.qn_member.specs.Maker.{Maker, after_announce, after_hello, has_configured, hellos_after, is_configured, of_rank, plain, says_more}
-use Rattle.qn_member.specs.Naming.{NamingMaker, after_named_announce, after_named_hello, after_stand, after_standing, has_bit, is_other, knows_bit}
+use Rattle.qn_member.specs.Maker.{Maker, after_announce, after_hello, enough_of, has_configured, hellos_after, is_configured, of_rank, plain, said_in, says_more}
+use Rattle.qn_member.specs.Naming.{NamingMaker, after_named_announce, after_named_hello, after_stand, after_standing, has_bit, holds_bit, is_other, is_own, is_passed_over, is_unable_then, knows_bit, names_nobody, said_with}
 use Rattle.qn_member.specs.NamingViews.{after_look, after_naming_hello_due, is_naming_hello_due}
 use Rattle.qn_live.specs.declared.place.Choice.{Choice}
 use Rattle.qn_live.specs.declared.place.Choice.TheVariants as choice
 use Rattle.qn_live.specs.declared.words.Own.{Own}
-use Rattle.qn_live.specs.Choosing.{heard, looked, looking, own_of, told}
+use Rattle.qn_live.specs.Choosing.{heard, looking, own_of, told}
 use Rattle.qn_live.specs.Greetings.{maker_begun, maker_where}
 use Rattle.qn_live.specs.Polling.{answered}
 use Rattle.qn_live.specs.Running.{RunState}
-use Rattle.qn_live.specs.Runs.{looked_at, taken}
-use Rattle.qn_joined.specs.Stands.{Acting, Ended, Looking, Parting, Polling, Receiving, Saying, Spot, after_spot, clocked_by, log_at}
+use Rattle.qn_joined.specs.Stands.{Acting, Ended, Looking, Parting, Polling, Receiving, Saying, Spot, after_spot, log_at}
 use Rattle.qn_service.specs.Hellos.{packet_chosen, packet_waiting}
 use Rattle.qn_service.specs.Looks.{LookOf, look_at, look_by, look_in}
 use Rattle.qn_service.proofs.Sound.{IsSound, look_heard, sound_places}
-use Rattle.qn_service.proofs.TurnSteps.{Besides, KnownAt, MakerIs, Places, StepsLead, acts_logged, answered_same, log_with}
+use Rattle.qn_service.proofs.TurnSteps.{Besides, KnownAt, Places, StepsLead, answered_same, any_maker, spot_looked}
 
 -- ## The Hellos that are known
 
 -- of a rank a Hello of a tick or later is known
-pub record KnowsHello (from since : ℕ) (hellos : List (Option ℕ)) : Type 0 where
+pub record KnowsTick (from since : ℕ) (hellos : List (Option ℕ)) : Type 0 where
   pub tick : ℕ
   pub is : of_rank hellos from ≡ Some tick
   pub late : since ≤ tick
 
--- what comes is no farewell of a rank
+-- the last one says what is so
+pub record KnowsWord (from : ℕ) (P : Said → Type 0) (words : List (Option Said)) : Type 0 where
+  pub said : Said
+  pub is : of_rank words from ≡ Some said
+  pub so : P said
+
+-- and where each Hello counts as a plain one, one that names nobody says it too
+pub record KnowsHello (from since : ℕ) (P : Said → Type 0) (k : Maker) : Type 0 where
+  pub hello : KnowsTick from since k.hellos
+  pub word : KnowsWord from P k.said
+  pub counts : (k.enough == 0) ≡ true → P names_nobody
+
+-- what comes is no farewell of a rank, and a Hello of it says what is so
 abbrev pub NoFarewell : ℕ → Option Packet → Type 0
 NoFarewell from p = (view : View) → p ≡ Some (packet.Announce (rank_of from) view) → is_member view.members from ≡ true
 
-set_or_same : (items : List (Option ℕ)) (i j tick : ℕ)
-    → (of_rank (slice_set items i (Some tick)) j ≡ Some tick) ⊎ (of_rank (slice_set items i (Some tick)) j ≡ of_rank items j)
-set_or_same [] i j tick = inr refl
-set_or_same (x ∷ items) zero zero tick = inl refl
-set_or_same (x ∷ items) zero (suc j) tick = inr refl
-set_or_same (x ∷ items) (suc i) zero tick = inr refl
-set_or_same (x ∷ items) (suc i) (suc j) tick = set_or_same items i j tick
+abbrev pub SaysSo : ℕ → (Said → Type 0) → Option Packet → Type 0
+SaysSo from P p = (said : Said) (standing : Standing) → p ≡ Some (packet.Heard (rank_of from) said standing) → P said
 
-set_other : (items : List (Option ℕ)) (i j : ℕ) (x : Option ℕ) → (i ≡ j → ⊥) → of_rank (slice_set items i x) j ≡ of_rank items j
+set_or_same : {A : Type 0} (items : List (Option A)) (i j : ℕ) (a : A)
+    → (of_rank (slice_set items i (Some a)) j ≡ Some a) ⊎ (of_rank (slice_set items i (Some a)) j ≡ of_rank items j)
+set_or_same [] i j a = inr refl
+set_or_same (x ∷ items) zero zero a = inl refl
+set_or_same (x ∷ items) zero (suc j) a = inr refl
+set_or_same (x ∷ items) (suc i) zero a = inr refl
+set_or_same (x ∷ items) (suc i) (suc j) a = set_or_same items i j a
+
+set_other : {A : Type 0} (items : List (Option A)) (i j : ℕ) (x : Option A) → (i ≡ j → ⊥) → of_rank (slice_set items i x) j ≡ of_rank items j
 set_other [] i j x apart = refl
 set_other (y ∷ items) zero zero x apart = absurd (apart refl)
 set_other (y ∷ items) zero (suc j) x apart = refl
 set_other (y ∷ items) (suc i) zero x apart = refl
 set_other (y ∷ items) (suc i) (suc j) x apart = set_other items i j x (λ same. apart (ap suc same))
 
-module _ (from since : ℕ) where
+module _ (from since : ℕ) (P : Said → Type 0) (plain_so : P plain) where
   abbrev Has : Maker → Type 0
-  Has k = KnowsHello from since k.hellos
+  Has k = KnowsHello from since P k
 
-  same_known : (one other : List (Option ℕ)) → of_rank other from ≡ of_rank one from → KnowsHello from since one → KnowsHello from since other
-  same_known one other same known = record { tick = known.tick; is = same ∙ known.is; late = known.late }
+  same_tick : (one other : List (Option ℕ)) → of_rank other from ≡ of_rank one from → KnowsTick from since one → KnowsTick from since other
+  same_tick one other same known = record { tick = known.tick; is = same ∙ known.is; late = known.late }
 
-  set_known : (hellos : List (Option ℕ)) (i tick : ℕ) → since ≤ tick → KnowsHello from since hellos → KnowsHello from since (slice_set hellos i (Some tick))
-  set_known hellos i tick late known = by_place (set_or_same hellos i from tick)
+  same_word : (one other : List (Option Said)) → of_rank other from ≡ of_rank one from → KnowsWord from P one → KnowsWord from P other
+  same_word one other same known = record { said = known.said; is = same ∙ known.is; so = known.so }
+
+  set_tick : (hellos : List (Option ℕ)) (i tick : ℕ) → since ≤ tick → KnowsTick from since hellos → KnowsTick from since (slice_set hellos i (Some tick))
+  set_tick hellos i tick late known = by_place (set_or_same hellos i from tick)
     where
       by_place : (of_rank (slice_set hellos i (Some tick)) from ≡ Some tick) ⊎ (of_rank (slice_set hellos i (Some tick)) from ≡ of_rank hellos from)
-          → KnowsHello from since (slice_set hellos i (Some tick))
+          → KnowsTick from since (slice_set hellos i (Some tick))
       by_place (inl new) = record { tick = tick; is = new; late = late }
-      by_place (inr old) = same_known hellos (slice_set hellos i (Some tick)) old known
+      by_place (inr old) = same_tick hellos (slice_set hellos i (Some tick)) old known
+
+  set_word : (words : List (Option Said)) (i : ℕ) (said : Said) → (i ≡ from → P said) → KnowsWord from P words → KnowsWord from P (slice_set words i (Some said))
+  set_word words i said so known = by_same (cases_eq i from)
+    where
+      by_place : P said → (of_rank (slice_set words i (Some said)) from ≡ Some said) ⊎ (of_rank (slice_set words i (Some said)) from ≡ of_rank words from)
+          → KnowsWord from P (slice_set words i (Some said))
+      by_place here (inl new) = record { said = said; is = new; so = here }
+      by_place here (inr old) = same_word words (slice_set words i (Some said)) old known
+
+      by_same : (i ≡ from) ⊎ (i ≡ from → ⊥) → KnowsWord from P (slice_set words i (Some said))
+      by_same (inl same) = by_place (so same) (set_or_same words i from said)
+      by_same (inr other) = same_word words (slice_set words i (Some said)) (set_other words i from (Some said) other) known
 
   if_known : (b : Bool) (one other : Maker) → Has one → Has other → Has (if b then one else other)
   if_known true one other first second = first
@@ -87,144 +116,196 @@ module _ (from since : ℕ) where
 
   -- ## What comes
 
-  hello_known : (tick place : ℕ) (said : Said) (k : Maker) → since ≤ tick → Has k → Has (after_hello tick place said k)
-  hello_known tick place said k late known = if_known (is_configured k place) _ k (set_known k.hellos place tick late known) known
+  said_so : (k : Maker) (said : Said) → P said → P (said_in k said)
+  said_so k said so = by_two (k.enough == 0)
+    where
+      by_two : (b : Bool) → P (if b then plain else said)
+      by_two true = plain_so
+      by_two false = so
 
-  named_known : (tick place : ℕ) (said : Said) (m : NamingMaker) → since ≤ tick → Has m.maker → Has (after_named_hello tick place said m).maker
-  named_known tick place said m late known =
-      if_named (is_other m place) _ _ (hello_known tick place said m.maker late known) (hello_known tick place said m.maker late known)
+  hello_known : (tick place : ℕ) (said : Said) (k : Maker) → since ≤ tick → (place ≡ from → P said) → Has k → Has (after_hello tick place said k)
+  hello_known tick place said k late so known =
+      if_known (is_configured k place) _ k
+      (record {
+        hello = set_tick k.hellos place tick late known.hello;
+        word = set_word k.said place (said_in k said) (λ same. said_so k said (so same)) known.word;
+        counts = known.counts;
+      })
+      known
+
+  named_known : (tick place : ℕ) (said : Said) (m : NamingMaker) → since ≤ tick → (place ≡ from → P said) → Has m.maker → Has (after_named_hello tick place said m).maker
+  named_known tick place said m late so known =
+      if_named (is_other m place) _ _ (hello_known tick place said m.maker late so known) (hello_known tick place said m.maker late so known)
+
+  -- a node is passed over only where each Hello counts as a plain one
+  passed_counts : (m : NamingMaker) (place flags : ℕ) → is_passed_over m place flags ≡ true → (m.maker.enough == 0) ≡ true
+  passed_counts m place flags passed =
+      let able = and_parts (is_own m knows_bit && not (is_own m holds_bit) && m.maker.enough == 0 && slice_index_or m.deaf place false) (is_unable_then m place flags) passed in
+      let deaf = and_parts (is_own m knows_bit && not (is_own m holds_bit) && m.maker.enough == 0) (slice_index_or m.deaf place false) able.0 in
+      (and_parts (is_own m knows_bit && not (is_own m holds_bit)) (m.maker.enough == 0) deaf.0).1
+
+  word_with : (place flags : ℕ) (m : NamingMaker) → Has m.maker → KnowsWord from P (said_with m place flags)
+  word_with place flags m known = by_passed (is_passed_over m place flags) refl
+    where
+      by_passed : (b : Bool) → is_passed_over m place flags ≡ b → KnowsWord from P (if b then slice_set m.maker.said place (Some names_nobody) else m.maker.said)
+      by_passed true passed = set_word m.maker.said place names_nobody (λ same. known.counts (passed_counts m place flags passed)) known.word
+      by_passed false counts = known.word
 
   standing_known : (place : ℕ) (standing : Standing) (m : NamingMaker) → Has m.maker → Has (after_standing place standing m).maker
-  standing_known place standing m known = if_named (is_other m place && has_bit standing.flags knows_bit) _ m known known
+  standing_known place standing m known =
+      if_named (is_other m place && has_bit standing.flags knows_bit) _ m
+      (record { hello = known.hello; word = word_with place standing.flags m known; counts = known.counts }) known
 
-  parted_known : (place : ℕ) (view : View) (k : Maker) → (place ≡ from → is_member view.members place ≡ true) → Has k → KnowsHello from since (hellos_after place view k)
+  parted_known : (place : ℕ) (view : View) (k : Maker) → (place ≡ from → is_member view.members place ≡ true) → Has k → KnowsTick from since (hellos_after place view k)
   parted_known place view k stays known = by_member (is_member view.members place) refl
     where
-      by_place : (place ≡ from) ⊎ (place ≡ from → ⊥) → is_member view.members place ≡ false → KnowsHello from since (slice_set k.hellos place None)
+      by_place : (place ≡ from) ⊎ (place ≡ from → ⊥) → is_member view.members place ≡ false → KnowsTick from since (slice_set k.hellos place None)
       by_place (inl same) out = absurd (false≢true (sym out ∙ stays same))
-      by_place (inr other) out = same_known k.hellos (slice_set k.hellos place None) (set_other k.hellos place from None other) known
+      by_place (inr other) out = same_tick k.hellos (slice_set k.hellos place None) (set_other k.hellos place from None other) known.hello
 
-      by_member : (b : Bool) → is_member view.members place ≡ b → KnowsHello from since (if b then k.hellos else slice_set k.hellos place None)
-      by_member true in_it = known
+      by_member : (b : Bool) → is_member view.members place ≡ b → KnowsTick from since (if b then k.hellos else slice_set k.hellos place None)
+      by_member true in_it = known.hello
       by_member false out = by_place (cases_eq place from) out
 
   announce_known : (place : ℕ) (view : View) (m : NamingMaker) → (place ≡ from → is_member view.members place ≡ true) → Has m.maker → Has (after_named_announce place view m).maker
   announce_known place view m stays known =
       let counts = is_configured m.maker place && has_configured m.maker.nodes view.members in
-      let kept : Has (after_announce place view m.maker) = if_known counts _ m.maker (parted_known place view m.maker stays known) known in
+      let kept : Has (after_announce place view m.maker) =
+      if_known counts _ m.maker (record { hello = parted_known place view m.maker stays known; word = known.word; counts = known.counts }) known in
       if_named counts _ _ kept kept
 
-  heard_known : (tick : ℕ) (p : Option Packet) (m : NamingMaker) → since ≤ tick → NoFarewell from p → Has m.maker → Has (heard tick p m).maker
-  heard_known tick None m late stays known = known
-  heard_known tick (Some (packet.Hello place)) m late stays known =
-      if_named (is_configured m.maker place.0 && not (says_more tick m.maker place.0)) _ m (named_known tick place.0 plain m late known) known
-  heard_known tick (Some (packet.Heard place said standing)) m late stays known =
-      standing_known place.0 standing (after_named_hello tick place.0 said m) (named_known tick place.0 said m late known)
-  heard_known tick (Some (packet.Announce place view)) m late stays known =
+  heard_known : (tick : ℕ) (p : Option Packet) (m : NamingMaker) → since ≤ tick → NoFarewell from p → SaysSo from P p → Has m.maker → Has (heard tick p m).maker
+  heard_known tick None m late stays so known = known
+  heard_known tick (Some (packet.Hello place)) m late stays so known =
+      if_named (is_configured m.maker place.0 && not (says_more tick m.maker place.0)) _ m (named_known tick place.0 plain m late (λ same. plain_so) known) known
+  heard_known tick (Some (packet.Heard place said standing)) m late stays so known =
+      standing_known place.0 standing (after_named_hello tick place.0 said m)
+      (named_known tick place.0 said m late (λ same. so said standing (ap (λ r. Some (packet.Heard (record { 0 = r }) said standing)) same)) known)
+  heard_known tick (Some (packet.Announce place view)) m late stays so known =
       announce_known place.0 view m
       (λ same. subst (λ r. is_member view.members r ≡ true) (sym same) (stays view (ap (λ r. Some (packet.Announce (record { 0 = r }) view)) same))) known
-  heard_known tick (Some (packet.Ask ask)) m late stays known = known
-  heard_known tick (Some (packet.Tell tell)) m late stays known = known
-  heard_known tick (Some (packet.Vote agrees)) m late stays known = known
+  heard_known tick (Some (packet.Ask ask)) m late stays so known = known
+  heard_known tick (Some (packet.Tell tell)) m late stays so known = known
+  heard_known tick (Some (packet.Vote agrees)) m late stays so known = known
 
   stand_known : (standing : Standing) (holds : Bool) (m : NamingMaker) → Has m.maker → Has (after_stand standing holds m).maker
   stand_known standing holds m known = if_named (is_configured m.maker m.maker.me) _ m known known
 
-  pub told_fresh : (tick : ℕ) (own : Own) (p : Option Packet) (m : NamingMaker) → since ≤ tick → NoFarewell from p → Has m.maker → Has (told tick own p m).maker
-  told_fresh tick own p m late stays known = stand_known own.said own.holds (heard tick p m) (heard_known tick p m late stays known)
+  pub told_fresh : (tick : ℕ) (own : Own) (p : Option Packet) (m : NamingMaker) → since ≤ tick → NoFarewell from p → SaysSo from P p → Has m.maker → Has (told tick own p m).maker
+  told_fresh tick own p m late stays so known = stand_known own.said own.holds (heard tick p m) (heard_known tick p m late stays so known)
 
   look_fresh : (tick : ℕ) (m : NamingMaker) → Has m.maker → Has (after_look tick m).maker
-  look_fresh tick m known = same_known m.maker.hellos (after_look tick m).maker.hellos (ap (λ items. of_rank items from) (look_heard tick m).hellos) known
+  look_fresh tick m known =
+      let kept = look_heard tick m in
+      record {
+        hello = same_tick m.maker.hellos (after_look tick m).maker.hellos (ap (λ items. of_rank items from) kept.hellos) known.hello;
+        word = same_word m.maker.said (after_look tick m).maker.said (ap (λ items. of_rank items from) kept.said) known.word;
+        counts = λ none. known.counts (ap (λ n. n == 0) (sym kept.enough) ∙ none);
+      }
 
   due_fresh : (tick : ℕ) (m : NamingMaker) → Has m.maker → Has (after_naming_hello_due tick m).maker
-  due_fresh tick m known = if_named (is_naming_hello_due tick m) _ m known known
+  due_fresh tick m known =
+      if_named (is_naming_hello_due tick m) _ m (record { hello = known.hello; word = known.word; counts = known.counts }) known
 
 -- a Hello that comes is known from then on
-module _ (s : Settings) (from : ℕ) (under : from < length s.nodes) (few : length s.nodes ≤ 32) where
-  if_true : (tick : ℕ) (b : Bool) (one other : Maker) → b ≡ true → KnowsHello from tick one.hellos → KnowsHello from tick (if b then one else other).hellos
+module _ (s : Settings) (from : ℕ) (P : Said → Type 0) (plain_so : P plain) (under : from < length s.nodes) (few : length s.nodes ≤ 32)
+    (two : (enough_of s == 0) ≡ true → P names_nobody) where
+  if_true : (tick : ℕ) (b : Bool) (one other : Maker) → b ≡ true → KnowsHello from tick P one → KnowsHello from tick P (if b then one else other)
   if_true tick true one other is known = known
   if_true tick false one other is known = absurd (false≢true is)
 
-  told_now : (tick : ℕ) (own : Own) (said : Said) (standing : Standing) (m : NamingMaker) → m.maker.nodes ≡ s.nodes → length m.maker.hellos ≡ 32
-      → KnowsHello from tick (told tick own (Some (packet.Heard (rank_of from) said standing)) m).maker.hellos
-  told_now tick own said standing m nodes places =
-      stand_known from tick own.said own.holds (heard tick (Some (packet.Heard (rank_of from) said standing)) m)
-      (standing_known from tick from standing (after_named_hello tick from said m) (if_named from tick (is_other m from) _ _ hello hello))
+  told_now : (log : List Line) (tick : ℕ) (own : Own) (said : Said) (standing : Standing) (m : NamingMaker) → IsSound s log m → P said
+      → KnowsHello from tick P (told tick own (Some (packet.Heard (rank_of from) said standing)) m).maker
+  told_now log tick own said standing m sound so =
+      stand_known from tick P plain_so own.said own.holds (heard tick (Some (packet.Heard (rank_of from) said standing)) m)
+      (standing_known from tick P plain_so from standing (after_named_hello tick from said m) (if_named from tick P plain_so (is_other m from) _ _ hello hello))
     where
       configured : is_configured m.maker from ≡ true
-      configured = lt-ltb from (length m.maker.nodes) (subst (λ (list : List NodeEntry). from < length list) (sym nodes) under)
+      configured = lt-ltb from (length m.maker.nodes) (subst (λ (list : List NodeEntry). from < length list) (sym sound.nodes) under)
 
       there : from < length m.maker.hellos
-      there = omega (arith, under, few, places)
+      there = let places = sound.places in omega (arith, under, few, places)
 
-      hello : KnowsHello from tick (after_hello tick from said m.maker).hellos
+      there_said : from < length m.maker.said
+      there_said = let words = sound.words in omega (arith, under, few, words)
+
+      hello : KnowsHello from tick P (after_hello tick from said m.maker)
       hello =
           if_true tick (is_configured m.maker from) _ m.maker configured
-          (record { tick = tick; is = get_or-set_same m.maker.hellos from (Some tick) None there; late = omega arith })
+          (record {
+            hello = record { tick = tick; is = get_or-set_same m.maker.hellos from (Some tick) None there; late = omega arith };
+            word = record {
+              said = said_in m.maker said;
+              is = get_or-set_same m.maker.said from (Some (said_in m.maker said)) None there_said;
+              so = said_so from tick P plain_so m.maker said so;
+            };
+            counts = λ none. two (ap (λ n. n == 0) (sym sound.enough) ∙ none);
+          })
 
 -- ## From call to call
 
 -- there is a view maker, which knows such a Hello, and the log is not before that
-pub record HasFresh (from since : ℕ) (log : List Line) (had : Option NamingMaker) : Type 0 where
+pub record HasFresh (from since : ℕ) (P : Said → Type 0) (log : List Line) (had : Option NamingMaker) : Type 0 where
   pub maker : NamingMaker
   pub is : had ≡ Some maker
-  pub knows : KnowsHello from since maker.maker.hellos
+  pub knows : KnowsHello from since P maker.maker
   pub order : since ≤ now log
 
-abbrev pub fresh_places : ℕ → ℕ → Places
-fresh_places from since =
+abbrev pub fresh_places : ℕ → ℕ → (Said → Type 0) → Places
+fresh_places from since P =
     record {
-      between = λ log had. HasFresh from since log had;
-      acting = λ log had. HasFresh from since log had;
-      saying = λ sents log had. HasFresh from since log had;
+      between = λ log had. HasFresh from since P log had;
+      acting = λ log had. HasFresh from since P log had;
+      saying = λ sents log had. HasFresh from since P log had;
       over = λ log. Unit {0};
     }
 
--- beside: what comes is no farewell, and the node is live
-abbrev pub fresh_besides : Settings → ℕ → Besides
-fresh_besides s from =
+-- beside: what comes is no farewell, a Hello says what is so, and the node is live
+abbrev pub fresh_besides : Settings → ℕ → (Said → Type 0) → Besides
+fresh_besides s from P =
     record {
-      clock = λ log tick p. NoFarewell from p;
+      clock = λ log tick p. NoFarewell from p × SaysSo from P p;
+      look = λ tick m. Unit {0};
       sent = λ sent log. Unit {0};
       log = λ log. is_live (phase s log) ≡ true;
       maker = λ m. Unit {0};
     }
 
-module _ (s : Settings) (me from since : ℕ) where
-  left_fresh : (log : List Line) (live : Bool) (begun : NamingMaker) (had : Option NamingMaker) → live ≡ true → HasFresh from since log had
-      → HasFresh from since log (option_map (after_naming_hello_due (now log)) (maker_where live begun had))
+module _ (s : Settings) (me from since : ℕ) (P : Said → Type 0) (plain_so : P plain) where
+  left_fresh : (log : List Line) (live : Bool) (begun : NamingMaker) (had : Option NamingMaker) → live ≡ true → HasFresh from since P log had
+      → HasFresh from since P log (option_map (after_naming_hello_due (now log)) (maker_where live begun had))
   left_fresh log false begun had live fresh = absurd (false≢true live)
   left_fresh log true begun None live fresh = absurd (none-some fresh.maker fresh.is)
   left_fresh log true begun (Some m) live fresh =
       record {
         maker = after_naming_hello_due (now log) m;
         is = refl;
-        knows = due_fresh from since (now log) m
-            (subst (λ (k : NamingMaker). KnowsHello from since k.maker.hellos) (sym (same_Some m fresh.maker fresh.is)) fresh.knows);
+        knows = due_fresh from since P plain_so (now log) m
+            (subst (λ (k : NamingMaker). KnowsHello from since P k.maker) (sym (same_Some m fresh.maker fresh.is)) fresh.knows);
         order = fresh.order;
       }
 
-  looked_fresh : (log : List Line) (m : NamingMaker) (tick : ℕ) (own : Own) (p : Option Packet) → NoFarewell from p → now log ≤ tick → HasFresh from since log (Some m)
-      → KnowsHello from since (after_look tick (told tick own p m)).maker.hellos
-  looked_fresh log m tick own p stays order fresh =
+  looked_fresh : (log : List Line) (m : NamingMaker) (tick : ℕ) (own : Own) (p : Option Packet) → NoFarewell from p → SaysSo from P p → now log ≤ tick
+      → HasFresh from since P log (Some m) → KnowsHello from since P (after_look tick (told tick own p m)).maker
+  looked_fresh log m tick own p stays so order fresh =
       let before = fresh.order in
-      look_fresh from since tick (told tick own p m)
-      (told_fresh from since tick own p m (omega (arith, before, order)) stays
-      (subst (λ (k : NamingMaker). KnowsHello from since k.maker.hellos) (sym (same_Some m fresh.maker fresh.is)) fresh.knows))
+      look_fresh from since P plain_so tick (told tick own p m)
+      (told_fresh from since P plain_so tick own p m (omega (arith, before, order)) stays so
+      (subst (λ (k : NamingMaker). KnowsHello from since P k.maker) (sym (same_Some m fresh.maker fresh.is)) fresh.knows))
 
-  pub fresh_leads : StepsLead s me (fresh_besides s from) (fresh_places from since) (fresh_places from since)
+  pub fresh_leads : StepsLead s me (fresh_besides s from P) (fresh_places from since P) (fresh_places from since P)
   unfolding with_entry
   fresh_leads =
       record {
         waits = λ log had known. known;
         takes = λ log had tick p entry clock order makers known.
             let before = known.order in record { maker = known.maker; is = known.is; knows = known.knows; order = omega (arith, before, order) };
-        looks = λ log m tick own p clock order maker known.
+        looks = λ log m tick own p clock looking order maker known.
             let before = known.order in
             record {
               maker = after_look tick (told tick own p m);
               is = refl;
-              knows = looked_fresh log m tick own p clock order known;
+              knows = looked_fresh log m tick own p clock.0 clock.1 order known;
               order = omega (arith, before, order);
             };
         kept = λ m tick own p known. tt;
@@ -292,49 +373,38 @@ look_is rank (Saying sent rest st) made look found = absurd (none-some look foun
 look_is rank (Parting end sent rest st) made look found = absurd (none-some look found)
 look_is rank (Ended ran) made look found = absurd (none-some look found)
 
--- a look that hears a Hello of a rank leaves one that is known
-module _ (s : Settings) (me from : ℕ) (under : from < length s.nodes) (few : length s.nodes ≤ 32) (said : Said) (standing : Standing) (look : LookOf) where
-  open_hears : (log : List Line) (tick : ℕ) (own : Own) (c : Choice) (had : Option NamingMaker) → look_in me tick own c had ≡ Some look
-      → packet_chosen c ≡ Some (packet.Heard (rank_of from) said standing) → MakerIs (IsSound s log) had
-      → HasFresh from look.tick (log_with s me log tick (looked tick own c had).1) (looked tick own c had).0
-  unfolding with_entry
-  open_hears log tick own (choice.Whole entry) had found hears sound = absurd (none-some look found)
-  open_hears log tick own (choice.Answer reply) had found hears sound = absurd (none-some look found)
-  open_hears log tick own (choice.Open p) None found hears sound = absurd (none-some look found)
-  open_hears log tick own (choice.Open p) (Some m) found hears sound =
-      record { maker = after_look tick (told tick own p m); is = refl; knows = look_fresh from look.tick tick (told tick own p m) knows; order = omega (arith, at) }
-    where
-      at : look.tick ≡ tick
-      at = (in_is me tick own (choice.Open p) (Some m) look found).same
+-- the view maker before a look is that of the place
+pub sound_before : (s : Settings) (spot : Spot) (made : Call) (look : LookOf) → (is : LookIs spot made look) → KnownAt (sound_places s) spot → IsSound s is.chosen.1.log is.before
+sound_before s spot made look is sound = subst (KnownAt (sound_places s)) is.is sound is.before is.had
 
-      knows : KnowsHello from look.tick (told tick own p m).maker.hellos
-      knows =
-          subst (λ n. KnowsHello from n (told tick own p m).maker.hellos) (sym at)
-          (subst (λ q. KnowsHello from tick (told tick own q m).maker.hellos) (sym hears)
-          (told_now s from under few tick own said standing m (sound m refl).nodes (sound m refl).places))
+-- a look that hears a Hello of a rank leaves one that is known
+module _ (s : Settings) (me from : ℕ) (P : Said → Type 0) (plain_so : P plain) (under : from < length s.nodes) (few : length s.nodes ≤ 32)
+    (two : (enough_of s == 0) ≡ true → P names_nobody) (said : Said) (standing : Standing) (so : P said) (look : LookOf) where
+  look_knows : (spot : Spot) (made : Call) → look_at me spot made ≡ Some look → packet_waiting spot ≡ Some (packet.Heard (rank_of from) said standing) → KnownAt (sound_places s) spot
+      → KnowsHello from look.tick P look.maker.maker
+  look_knows spot made found hears sound =
+      subst (λ (m : NamingMaker). KnowsHello from look.tick P m.maker) (sym is.told)
+      (subst (λ tick. KnowsHello from tick P (told (time_of made) is.own (packet_chosen is.chosen.0) is.before).maker) (sym is.tick)
+      (subst (λ p. KnowsHello from (time_of made) P (told (time_of made) is.own p is.before).maker) (sym here)
+      (told_now s from P plain_so under few two is.chosen.1.log (time_of made) is.own said standing is.before (sound_before s spot made look is sound) so)))
+    where
+      is : LookIs spot made look
+      is = look_is me spot made look found
+
+      here : packet_chosen is.chosen.0 ≡ Some (packet.Heard (rank_of from) said standing)
+      here = sym (ap packet_waiting is.is) ∙ hears
 
   pub spot_hears : (leave : Option ℕ) (turn more : ℕ) (spot : Spot) (made : Call) → look_at me spot made ≡ Some look
       → packet_waiting spot ≡ Some (packet.Heard (rank_of from) said standing) → KnownAt (sound_places s) spot
       → is_live (phase s (log_at (after_spot s me leave turn more spot made).spot)) ≡ true
-      → KnownAt (fresh_places from look.tick) (after_spot s me leave turn more spot made).spot
-  unfolding after_spot
-  spot_hears leave turn more (Looking chosen) made found hears sound live = by_order (nat_lt (time_of made) (now chosen.1.log)) found live
-    where
-      by_order : (back : Bool) → (if back then None else look_by me (time_of made) (answered (time_of made) chosen)) ≡ Some look
-          → is_live (phase s (log_at (clocked_by s me leave turn more chosen (time_of made) back).spot)) ≡ true
-          → KnownAt (fresh_places from look.tick) (clocked_by s me leave turn more chosen (time_of made) back).spot
-      by_order true none alive = absurd (none-some look none)
-      by_order false here alive =
-          let tick = time_of made in
-          let st = looking tick (answered tick chosen) in
-          let got = looked_at tick (answered tick chosen) in
-          let after = taken s me st tick got in
-          acts_logged s me (fresh_besides s from) (fresh_places from look.tick) (fresh_places from look.tick) (fresh_leads s me from look.tick)
-          leave turn more got.1 (newest_outs after.log) (newest_outs after.log) after alive (λ m is. tt)
-          (open_hears chosen.1.log tick (own_of st) (answered tick chosen).0 chosen.1.maker here (answered_same tick chosen.1.poller chosen.0 ∙ hears) sound)
-  spot_hears leave turn more (Receiving st) made found hears sound live = absurd (none-some look found)
-  spot_hears leave turn more (Acting entry outs o rest st) made found hears sound live = absurd (none-some look found)
-  spot_hears leave turn more (Polling poll sents st) made found hears sound live = absurd (none-some look found)
-  spot_hears leave turn more (Saying sent rest st) made found hears sound live = absurd (none-some look found)
-  spot_hears leave turn more (Parting end sent rest st) made found hears sound live = absurd (none-some look found)
-  spot_hears leave turn more (Ended ran) made found hears sound live = absurd (none-some look found)
+      → KnownAt (fresh_places from look.tick P) (after_spot s me leave turn more spot made).spot
+  unfolding with_entry
+  spot_hears leave turn more spot made found hears sound live =
+      spot_looked s me (fresh_besides s from P) (fresh_places from look.tick P) (fresh_places from look.tick P) (fresh_leads s me from look.tick P plain_so) look leave turn more spot made found
+      (any_maker spot) live
+      (λ log entry. record {
+        maker = after_look look.tick look.maker;
+        is = refl;
+        knows = look_fresh from look.tick P plain_so look.tick look.maker (look_knows spot made found hears sound);
+        order = omega arith;
+      })

@@ -36,6 +36,8 @@ pub mod Resets
 mod Rows
 pub mod ServedBy
 pub mod SaidHellos
+pub mod SaidNames
+pub mod SeenLooks
 mod ServingRows
 pub mod Shown
 pub mod Sound

@@ -20,8 +20,8 @@ use Rattle.qn_base.specs.declared.ids.Standing.{Standing}
 use Rattle.qn_base.specs.declared.ids.View.{View}
 use Rattle.qn_base.specs.Members.{is_member}
 use Rattle.qn_io.specs.Answered.{time_of}
-use Rattle.qn_member.specs.Maker.{is_heard, of_rank}
-use Rattle.qn_member.specs.Naming.{NamingMaker}
+use Rattle.qn_member.specs.Maker.{enough_of, is_heard, of_rank, plain}
+use Rattle.qn_member.specs.Naming.{NamingMaker, names_nobody}
 use Rattle.qn_live.specs.declared.place.Choice.{Choice}
 use Rattle.qn_live.specs.Choosing.{told}
 use Rattle.qn_live.specs.Running.{RunState}
@@ -30,13 +30,13 @@ use Rattle.qn_joined.specs.Joints.{Happening, Host, IsJoined, joint_after}
 use Rattle.qn_joined.specs.Moves.{EachIsOneEvent}
 use Rattle.qn_joined.specs.Stands.{Acting, Ended, Looking, Parting, Polling, Receiving, Saying, Spot, after_spot, log_at}
 use Rattle.qn_joined.specs.WorldOf.{EveryJointHasAWorld, HasWorld}
-use Rattle.qn_service.specs.Hellos.{IsHeardBy, IsNear, LooksHear, SaidHello, beat_ticks, hello_ticks, packet_chosen, packet_waiting}
+use Rattle.qn_service.specs.Hellos.{IsHeardBy, IsNear, LooksHear, SaidHello, beat_ticks, hello_ticks, packet_chosen, packet_to_hear, packet_waiting}
 use Rattle.qn_service.specs.Looks.{LookOf, look_at, look_of}
 use Rattle.qn_service.specs.NextLooks.{look_of_rank}
 use Rattle.qn_service.specs.Serving.{clock_at}
 use Rattle.qn_service.specs.Unheard.{log_after}
 use Rattle.qn_service.proofs.ByTheImage.{HeadersReadBack}
-use Rattle.qn_service.proofs.FreshHellos.{HasFresh, KnowsHello, LookIs, NoFarewell, fresh_besides, fresh_leads, fresh_places, look_is, spot_hears, told_fresh}
+use Rattle.qn_service.proofs.FreshHellos.{HasFresh, KnowsHello, LookIs, NoFarewell, SaysSo, fresh_besides, fresh_leads, fresh_places, look_is, spot_hears, told_fresh}
 use Rattle.qn_service.proofs.JointClocks.{ClockLaws, ClocksRun, Made, ReturnOf, Still, UpStep, clocks_run, read_at, up_step}
 use Rattle.qn_service.proofs.KeptLoops.{loop_of, told_keeps}
 use Rattle.qn_service.proofs.Made.{filtered}
@@ -45,7 +45,7 @@ use Rattle.qn_service.proofs.RankSteps.{host_after, returned_spot}
 use Rattle.qn_service.proofs.SaidHellos.{hello_said, some_loop, up_leads}
 use Rattle.qn_service.proofs.Sound.{always_sound}
 use Rattle.qn_service.proofs.Tracing.{Traced, traced}
-use Rattle.qn_service.proofs.TurnSteps.{Besides, KnownAt, MakerAt, Places, StepsLead}
+use Rattle.qn_service.proofs.TurnSteps.{Besides, KnownAt, MakerAt, Places, StepsLead, any_maker}
 
 -- ## The newest line of a log
 
@@ -60,7 +60,7 @@ early_places limit =
     }
 
 abbrev early_besides : ℕ → Besides
-early_besides limit = record { clock = λ log tick p. tick ≤ limit; sent = λ sent log. Unit {0}; log = λ log. Unit {0}; maker = λ m. Unit {0} }
+early_besides limit = record { clock = λ log tick p. tick ≤ limit; look = λ tick m. Unit {0}; sent = λ sent log. Unit {0}; log = λ log. Unit {0}; maker = λ m. Unit {0} }
 
 early_leads : (s : Settings) (me limit : ℕ) → StepsLead s me (early_besides limit) (early_places limit) (early_places limit)
 unfolding with_entry
@@ -68,7 +68,7 @@ early_leads s me limit =
     record {
       waits = λ log had known. known;
       takes = λ log had tick p entry clock order makers known. clock;
-      looks = λ log m tick own p clock order maker known. clock;
+      looks = λ log m tick own p clock looking order maker known. clock;
       kept = λ m tick own p known. tt;
       acts = λ log had known. known;
       greets = λ log had loop_ms own logged makers known. known;
@@ -97,15 +97,6 @@ early_out limit (Polling poll sents st) early = early
 early_out limit (Saying sent rest st) early = early
 early_out limit (Parting end sent rest st) early = early
 early_out limit (Ended ran) early = early
-
-any_maker : (spot : Spot) → MakerAt (λ m. Unit {0}) spot
-any_maker (Receiving st) = λ m is. tt
-any_maker (Looking chosen) = λ m is. tt
-any_maker (Acting entry outs o rest st) = λ m is. tt
-any_maker (Polling poll sents st) = λ m is. tt
-any_maker (Saying sent rest st) = λ m is. tt
-any_maker (Parting end sent rest st) = tt
-any_maker (Ended ran) = tt
 
 -- ## Numbers
 
@@ -152,17 +143,17 @@ module _ (s : Settings) (t : Timing) (worlds : EveryJointHasAWorld s t) (one : E
   it : Traced s t image older has.events (newer ++ older)
   it = traced s t one joined.fits image newer older joined.may has
 
-  from_runs : (a b : List Happening) → Before older a → Before a b → Before b all → ClocksRun s image from a b
+  pub from_runs : (a b : List Happening) → Before older a → Before a b → Before b all → ClocksRun s image from a b
   from_runs = clocks_run s t image from older all has.events it.events laws it.trace joined.may (λ at since until. (near.sender at since until).is)
 
-  to_runs : (a b : List Happening) → Before older a → Before a b → Before b all → ClocksRun s image to a b
+  pub to_runs : (a b : List Happening) → Before older a → Before a b → Before b all → ClocksRun s image to a b
   to_runs = clocks_run s t image to older all has.events it.events laws it.trace joined.may (λ at since until. (near.hearer at since until).is)
 
   to_grows : (a b : List Happening) → Before older a → Before a b → Before b all → clock_at s image a to ≤ clock_at s image b to
   to_grows a b since order until =
       ticks_grow (host_after s image to a).clock (host_after s image to b).clock (to_runs a b since order until).grows
 
-  to_step : (newest : Happening) (at : List Happening) → Before older at → Before (newest ∷ at) all → UpStep s t image to newest at
+  pub to_step : (newest : Happening) (at : List Happening) → Before older at → Before (newest ∷ at) all → UpStep s t image to newest at
   to_step = up_step s t image to older all has.events it.events laws it.trace joined.may (λ at since until. (near.hearer at since until).is)
 
   -- a happening takes a turn at most
@@ -179,17 +170,17 @@ module _ (s : Settings) (t : Timing) (worlds : EveryJointHasAWorld s t) (one : E
       read =
           early_out limit (host_after s image to (newest ∷ at)).stand.spot
           (up_leads s t image to newest at (early_besides limit) (early_places limit) (early_places limit) (early_leads s to limit) (to_step newest at since until)
-          (λ chosen is tick told. omega (arith, told)) (λ sent rest st is says. tt) tt (any_maker (host_after s image to at).stand.spot)
+          (λ chosen is tick told. omega (arith, told)) (λ look is. tt) (λ sent rest st is says. tt) tt (any_maker (host_after s image to at).stand.spot)
           (early_in limit (host_after s image to at).stand.spot
           (read_at s t image to older all has.events it.events laws it.trace joined.may (λ h a b. (near.hearer h a b).is) at since (before_tail until))))
 
   -- the last joint from which on the way of a packet is over before a tick
-  record LastBefore (last : ℕ) (new : List Happening) : Type 0 where
-    at : List Happening
-    since : Before older at
-    until : Before at new
-    early : clock_at s image at to + post < last
-    close : last ≤ clock_at s image at to + post + turn
+  pub record LastBefore (last : ℕ) (new : List Happening) : Type 0 where
+    pub at : List Happening
+    pub since : Before older at
+    pub until : Before at new
+    pub early : clock_at s image at to + post < last
+    pub close : last ≤ clock_at s image at to + post + turn
 
   last_before : (last : ℕ) (at : List Happening) → Before older at → Before at all → clock_at s image older to + post < last → last ≤ clock_at s image at to + post → LastBefore last at
   last_before last at Itself until starts reach = absurd (omega (arith, starts, reach))
@@ -211,18 +202,26 @@ module _ (s : Settings) (t : Timing) (worlds : EveryJointHasAWorld s t) (one : E
       → NoFarewell from (packet_chosen chosen.0)
   stays_at at since until chosen is view comes = near.stays at view since until (ap packet_waiting is ∙ comes)
 
-  fresh_on : (since : ℕ) (base at : List Happening) → Before older base → Before base at → Before at all
-      → KnownAt (fresh_places from since) (host_after s image to base).stand.spot → KnownAt (fresh_places from since) (host_after s image to at).stand.spot
-  fresh_on since base at after Itself until known = known
-  fresh_on since base (newest ∷ at) after (Later same order) until known =
-      up_leads s t image to newest at (fresh_besides s from) (fresh_places from since) (fresh_places from since) (fresh_leads s to from since)
+  -- a Hello that a look hears after a joint says what is so
+  abbrev pub SaysSoFrom : (Said → Type 0) → List Happening → Type 0
+  SaysSoFrom P base = (at : List Happening) → Before base at → Before at all → SaysSo from P (packet_to_hear s image to at)
+
+  fresh_on : (P : Said → Type 0) → P plain → (since : ℕ) (base at : List Happening) → Before older base → Before base at → Before at all → SaysSoFrom P base
+      → KnownAt (fresh_places from since P) (host_after s image to base).stand.spot → KnownAt (fresh_places from since P) (host_after s image to at).stand.spot
+  fresh_on P plain_so since base at after Itself until so known = known
+  fresh_on P plain_so since base (newest ∷ at) after (Later same order) until so known =
+      up_leads s t image to newest at (fresh_besides s from P) (fresh_places from since P) (fresh_places from since P) (fresh_leads s to from since P plain_so)
       (to_step newest at (before_then after order) until)
-      (λ chosen is tick told. stays_at at (before_then after order) (before_tail until) chosen is) (λ sent rest st is says. tt)
+      (λ chosen is tick told. (
+        stays_at at (before_then after order) (before_tail until) chosen is,
+        λ said standing comes. so at order (before_tail until) said standing (ap packet_waiting is ∙ comes),
+      ))
+      (λ look is. tt) (λ sent rest st is says. tt)
       (ap is_live (near.hearer (newest ∷ at) (Later newest (before_then after order)) until).is.up) (any_maker (host_after s image to at).stand.spot)
-      (fresh_on since base at after order (before_tail until) known)
+      (fresh_on P plain_so since base at after order (before_tail until) so known)
 
   -- a look of the rank is a call that returned
-  look_made : (newest : Happening) (at : List Happening) (look : LookOf) → Before older at → Before (newest ∷ at) all → look_of_rank s image to newest at ≡ Some look
+  pub look_made : (newest : Happening) (at : List Happening) (look : LookOf) → Before older at → Before (newest ∷ at) all → look_of_rank s image to newest at ≡ Some look
       → (r : ReturnOf s t image to newest at) × (look_at to (host_after s image to at).stand.spot r.made ≡ Some look)
   look_made newest at look since until found = by_step (to_step newest at since until)
     where
@@ -241,13 +240,13 @@ module _ (s : Settings) (t : Timing) (worlds : EveryJointHasAWorld s t) (one : E
       is.tick ∙ made.0.told is.chosen is.is
 
   -- a Hello that a look heard is known after it
-  heard_then : (p : Packet) (limit : ℕ) (since : List Happening) → Before older since → (h : IsHeardBy s image to p limit since all)
-      → (said : Said) (standing : Standing) → p ≡ packet.Heard (rank_of from) said standing
-      → KnownAt (fresh_places from h.look.tick) (host_after s image to (h.happening ∷ h.at)).stand.spot
-  heard_then p limit since after h said standing is =
-      subst (KnownAt (fresh_places from h.look.tick)) (sym there)
-      (spot_hears s to from near.configured.0 joined.fits.few said standing h.look host.leave host.stand.turn host.stand.more host.stand.spot made.0.made made.1
-      (h.hears ∙ ap Some is) (always_sound s image to h.at)
+  heard_then : (P : Said → Type 0) → P plain → ((enough_of s == 0) ≡ true → P names_nobody) → (limit : ℕ) (since : List Happening) → Before older since
+      → (said : Said) (standing : Standing) → P said → (h : IsHeardBy s image to (packet.Heard (rank_of from) said standing) limit since all)
+      → KnownAt (fresh_places from h.look.tick P) (host_after s image to (h.happening ∷ h.at)).stand.spot
+  heard_then P plain_so two limit since after said standing so h =
+      subst (KnownAt (fresh_places from h.look.tick P)) (sym there)
+      (spot_hears s to from P plain_so near.configured.0 joined.fits.few two said standing so h.look host.leave host.stand.turn host.stand.more host.stand.spot made.0.made made.1
+      h.hears (always_sound s image to h.at)
       (subst (λ (spot : Spot). is_live (phase s (log_at spot)) ≡ true) there
       (ap is_live (near.hearer (h.happening ∷ h.at) (Later h.happening (before_then after h.after)) h.back).is.up)))
     where
@@ -268,14 +267,14 @@ module _ (s : Settings) (t : Timing) (worlds : EveryJointHasAWorld s t) (one : E
     until_at : Before at all
     until_at = before_tail until
 
-    mid : LastBefore (clock_at s image at to) at
+    pub mid : LastBefore (clock_at s image at to) at
     mid =
         last_before (clock_at s image at to) at since until_at
         (starts_before (beat_ticks t turn) turn post (host_after s image to older).clock (host_after s image to at).clock (joint_after s image older).time (joint_after s image at).time
         (to_runs older at Itself since until_at).slow late)
         (omega arith)
 
-    hello : SaidHello s image from to (beat_ticks t turn) older mid.at
+    pub hello : SaidHello s image from to (beat_ticks t turn) older mid.at
     hello =
         hello_said s t image turn from to older all has.events it.events laws it.trace joined.may near.sender
         (makers_loop s t worlds back image newer older joined turn from near.sender) near.configured.1 near.apart (some_loop t joined.fits.times)
@@ -296,12 +295,12 @@ module _ (s : Settings) (t : Timing) (worlds : EveryJointHasAWorld s t) (one : E
         let early = mid.early in
         omega (arith, grows, early)
 
-    heard_it : IsHeardBy s image to (packet.Heard (rank_of from) hello.said hello.standing) (clock_at s image hello.at to + post) (hello.happening ∷ hello.at) all
+    pub heard_it : IsHeardBy s image to (packet.Heard (rank_of from) hello.said hello.standing) (clock_at s image hello.at to + post) (hello.happening ∷ hello.at) all
     heard_it =
         near.come hello.at hello.happening (packet.Heard (rank_of from) hello.said hello.standing) hello.after said_until hello.says
         (let grows = to_grows at all since until_at Itself in let before = comes_before in omega (arith, grows, before))
 
-    heard_since : Before older heard_it.at
+    pub heard_since : Before older heard_it.at
     heard_since = before_then (Later hello.happening hello.after) heard_it.after
 
     -- it was heard before the look
@@ -319,7 +318,7 @@ module _ (s : Settings) (t : Timing) (worlds : EveryJointHasAWorld s t) (one : E
         tail_of : {a b : Happening} {first second : List Happening} → a ∷ first ≡ b ∷ second → first ≡ second
         tail_of e = cc
 
-    heard_before : Before (heard_it.happening ∷ heard_it.at) at
+    pub heard_before : Before (heard_it.happening ∷ heard_it.at) at
     heard_before = by_place (before_total heard_it.back until_at)
       where
         by_place : Before (heard_it.happening ∷ heard_it.at) at ⊎ Before at (heard_it.happening ∷ heard_it.at) → Before (heard_it.happening ∷ heard_it.at) at
@@ -328,12 +327,6 @@ module _ (s : Settings) (t : Timing) (worlds : EveryJointHasAWorld s t) (one : E
 
     heard_tick : heard_it.look.tick ≡ clock_at s image heard_it.at to
     heard_tick = look_tick heard_it.happening heard_it.at heard_it.look heard_since heard_it.back heard_it.is
-
-    known : KnownAt (fresh_places from heard_it.look.tick) (host_after s image to at).stand.spot
-    known =
-        fresh_on heard_it.look.tick (heard_it.happening ∷ heard_it.at) at (Later heard_it.happening heard_since) heard_before until_at
-        (heard_then (packet.Heard (rank_of from) hello.said hello.standing) (clock_at s image hello.at to + post) (hello.happening ∷ hello.at) (Later hello.happening hello.after)
-        heard_it hello.said hello.standing refl)
 
     in_time : clock_at s image at to ≤ heard_it.look.tick + 3 * t.loop_ms
     in_time =
@@ -353,39 +346,50 @@ module _ (s : Settings) (t : Timing) (worlds : EveryJointHasAWorld s t) (one : E
     is : LookIs (host_after s image to at).stand.spot made.0.made look
     is = look_is to (host_after s image to at).stand.spot made.0.made look made.1
 
-    fresh : HasFresh from heard_it.look.tick is.chosen.1.log is.chosen.1.maker
-    fresh = subst (KnownAt (fresh_places from heard_it.look.tick)) is.is known
-
     tick_is : time_of made.0.made ≡ clock_at s image at to
     tick_is = made.0.told is.chosen is.is
-
-    before_knows : KnowsHello from heard_it.look.tick is.before.maker.hellos
-    before_knows =
-        subst (λ (k : NamingMaker). KnowsHello from heard_it.look.tick k.maker.hellos)
-        (same_Some fresh.maker is.before (sym fresh.is ∙ is.had)) fresh.knows
-
-    knows : KnowsHello from heard_it.look.tick look.maker.maker.hellos
-    knows =
-        subst (λ (m : NamingMaker). KnowsHello from heard_it.look.tick m.maker.hellos) (sym is.told)
-        (told_fresh from heard_it.look.tick (time_of made.0.made) is.own (packet_chosen is.chosen.0) is.before
-        (let grows = to_grows heard_it.at at heard_since (before_tail heard_before) until_at in let told = heard_tick in let here = tick_is in omega (arith, grows, told, here))
-        (stays_at at since until_at is.chosen is.is) before_knows)
 
     loop_is : look.maker.maker.loop_ms ≡ t.loop_ms
     loop_is =
         ap loop_of is.told ∙ told_keeps (time_of made.0.made) is.own (packet_chosen is.chosen.0) is.before
         ∙ subst (MakerAt (λ m. loop_of m ≡ t.loop_ms)) is.is (makers_loop s t worlds back image newer older joined turn to near.hearer at since until_at) is.before is.had
 
-    pub look_hears : is_heard look.tick look.maker.maker from ≡ true
-    look_hears =
+    -- the Hello that is known at the look says what each says that was heard since
+    module _ (P : Said → Type 0) (plain_so : P plain) (two : (enough_of s == 0) ≡ true → P names_nobody) (so : P hello.said)
+        (all_so : SaysSoFrom P (heard_it.happening ∷ heard_it.at)) where
+      known : KnownAt (fresh_places from heard_it.look.tick P) (host_after s image to at).stand.spot
+      known =
+          fresh_on P plain_so heard_it.look.tick (heard_it.happening ∷ heard_it.at) at (Later heard_it.happening heard_since) heard_before until_at all_so
+          (heard_then P plain_so two (clock_at s image hello.at to + post) (hello.happening ∷ hello.at) (Later hello.happening hello.after) hello.said hello.standing so heard_it)
+
+      fresh : HasFresh from heard_it.look.tick P is.chosen.1.log is.chosen.1.maker
+      fresh = subst (KnownAt (fresh_places from heard_it.look.tick P)) is.is known
+
+      before_knows : KnowsHello from heard_it.look.tick P is.before.maker
+      before_knows =
+          subst (λ (k : NamingMaker). KnowsHello from heard_it.look.tick P k.maker) (same_Some fresh.maker is.before (sym fresh.is ∙ is.had)) fresh.knows
+
+      pub knows : KnowsHello from heard_it.look.tick P look.maker.maker
+      knows =
+          subst (λ (m : NamingMaker). KnowsHello from heard_it.look.tick P m.maker) (sym is.told)
+          (told_fresh from heard_it.look.tick P plain_so (time_of made.0.made) is.own (packet_chosen is.chosen.0) is.before
+          (let grows = to_grows heard_it.at at heard_since (before_tail heard_before) until_at in let told = heard_tick in let here = tick_is in omega (arith, grows, told, here))
+          (stays_at at since until_at is.chosen is.is)
+          (λ said standing comes. all_so at heard_before until_at said standing (ap packet_waiting is.is ∙ comes)) before_knows)
+
+    pub hears_by : (P : Said → Type 0) → KnowsHello from heard_it.look.tick P look.maker.maker → is_heard look.tick look.maker.maker from ≡ true
+    hears_by P knows =
         or_right (from == look.maker.maker.me) _
-        (ap (λ o. option_map_or (λ heard. nat_le look.tick (heard + 3 * look.maker.maker.loop_ms)) o false) knows.is
-        ∙ le-leb look.tick (knows.tick + 3 * look.maker.maker.loop_ms) soon)
+        (ap (λ o. option_map_or (λ heard. nat_le look.tick (heard + 3 * look.maker.maker.loop_ms)) o false) knows.hello.is
+        ∙ le-leb look.tick (knows.hello.tick + 3 * look.maker.maker.loop_ms) soon)
       where
-        soon : look.tick ≤ knows.tick + 3 * look.maker.maker.loop_ms
+        soon : look.tick ≤ knows.hello.tick + 3 * look.maker.maker.loop_ms
         soon =
-            let same = is.tick in let here = tick_is in let late_then = knows.late in let enough = in_time in let loop = loop_is in
+            let same = is.tick in let here = tick_is in let late_then = knows.hello.late in let enough = in_time in let loop = loop_is in
             omega (arith, same, here, late_then, enough, loop)
+
+    pub look_hears : is_heard look.tick look.maker.maker from ≡ true
+    look_hears = hears_by (λ said. Unit {0}) (knows (λ said. Unit {0}) tt (λ none. tt) tt (λ h order until' said standing comes. tt))
 
 pub looks_hear : (s : Settings) (t : Timing) → EveryJointHasAWorld s t → EachIsOneEvent s t → HeadersReadBack → ClockLaws → LooksHear s t
 looks_hear s t worlds one back laws image turn post from to newer older at happening look joined near since until found late =

@@ -1,7 +1,7 @@
 -- From joint to joint a running node that is up and keeps its pace has said a Hello to each other one lately.
-use Rattle.std.proofs.Common.{◌≡◌, ◌⊎◌, inl, inr, ℕ, ◌+◌, ◌*◌, ◌/◌, ◌<◌, ◌≤◌, Bool, true, false, ◌&&◌, List, [], ◌∷◌, ◌++◌, Option, Some, length, refl, sym, ◌∙◌, ap, subst, arith}
-use Rattle.std.specs.Prelude.{IsTrue, option_map}
-use Rattle.std.proofs.lemmas.Bool.{and_parts, leb-true}
+use Rattle.std.proofs.Common.{◌≡◌, ◌⊎◌, inl, inr, ℕ, ◌+◌, ◌*◌, ◌/◌, ◌<◌, ◌≤◌, Bool, true, false, ◌&&◌, ◌==◌, List, [], ◌∷◌, ◌++◌, Option, None, Some, if◌then◌else◌, length, refl, sym, ◌∙◌, ap, subst, arith}
+use Rattle.std.specs.Prelude.{IsTrue, option_and_then, option_map}
+use Rattle.std.proofs.lemmas.Bool.{and_parts, eq-eqb, leb-true}
 use Rattle.qn_base.specs.declared.calls.Call.{Call}
 use Rattle.qn_io.specs.Answered.{time_of}
 use Rattle.qn_model.specs.declared.configuration.Settings.{Settings}
@@ -19,11 +19,14 @@ use Rattle.qn_live.specs.Running.{RunState}
 use Rattle.qn_joined.specs.Joints.{AllMayHappen, Happening, Host, Returns, joint_after}
 use Rattle.qn_joined.specs.Stands.{Acting, Ended, Looking, Parting, Polling, Receiving, Saying, Spot, Stand, after_spot, log_at}
 use Rattle.qn_service.specs.Hellos.{IsAwake, SaidHello, StaysAwake, beat_ticks, packet_chosen, said_in, sent_next}
+use Rattle.qn_service.specs.Looks.{LookOf, look_at}
+use Rattle.qn_service.specs.NextLooks.{look_of_rank}
 use Rattle.qn_service.specs.Serving.{clock_at}
 use Rattle.qn_service.specs.Unheard.{log_after}
 use Rattle.qn_service.proofs.Beats.{Beats, WasSaid, beat_besides, beat_leads, beat_places, beats_at, beats_first}
 use Rattle.qn_service.proofs.JointClocks.{ClockLaws, Made, ReturnOf, Still, UpStep, read_at, up_step}
 use Rattle.qn_service.proofs.KeptLoops.{loop_of}
+use Rattle.qn_service.proofs.KeptViews.{look_rank}
 use Rattle.qn_service.proofs.RankSteps.{host_after, returned_spot}
 use Rattle.qn_service.proofs.Sound.{always_sound}
 use Rattle.qn_service.proofs.Timing.{WorksAt}
@@ -57,13 +60,16 @@ module _ (s : Settings) (t : Timing) (image : ℕ → List ℕ) (rank : ℕ) (ne
   abbrev pub SentIs : Type 0
   SentIs = (sent : Sent) (rest : List Sent) (st : RunState) → (host_after s image rank at).stand.spot ≡ Saying sent rest st → said_in s image newest at ≡ Some (rank, sent) → b.sent sent st.log
 
-  pub up_leads : UpStep s t image rank newest at → ClockIs → SentIs → b.log (log_after s image (newest ∷ at) rank) → MakerAt b.maker (host_after s image rank at).stand.spot
+  abbrev pub EachLookIs : Type 0
+  EachLookIs = (look : LookOf) → look_of_rank s image rank newest at ≡ Some look → b.look look.tick look.maker
+
+  pub up_leads : UpStep s t image rank newest at → ClockIs → EachLookIs → SentIs → b.log (log_after s image (newest ∷ at) rank) → MakerAt b.maker (host_after s image rank at).stand.spot
       → KnownAt old (host_after s image rank at).stand.spot → KnownAt new (host_after s image rank (newest ∷ at)).stand.spot
-  up_leads (Still same none) clock sends logged makers known =
+  up_leads (Still same none) clock looks sends logged makers known =
       subst (λ (st : Stand). KnownAt new st.spot) (sym same) (spot_rests s rank b old new lead (host_after s image rank at).stand.spot known)
-  up_leads (Made r) clock sends logged makers known =
+  up_leads (Made r) clock looks sends logged makers known =
       subst (KnownAt new) (sym after) (spot_leads s rank b old new lead host.leave host.stand.turn host.stand.more host.stand.spot r.made
-      (λ chosen is. clock chosen is (time_of r.made) (r.told chosen is)) (λ sent rest st is. sends sent rest st is (says sent rest st is))
+      (λ chosen is. clock chosen is (time_of r.made) (r.told chosen is)) (λ look is. looks look (looked look is)) (λ sent rest st is. sends sent rest st is (says sent rest st is))
       (subst (λ (spot : Spot). b.log (log_at spot)) after logged) makers known)
     where
       host : Host
@@ -71,6 +77,11 @@ module _ (s : Settings) (t : Timing) (image : ℕ → List ℕ) (rank : ℕ) (ne
 
       after : (host_after s image rank (newest ∷ at)).stand.spot ≡ (after_spot s rank host.leave host.stand.turn host.stand.more host.stand.spot r.made).spot
       after = r.stand ∙ returned_spot s rank (joint_after s image at).time host r.made
+
+      looked : (look : LookOf) → look_at rank host.stand.spot r.made ≡ Some look → look_of_rank s image rank newest at ≡ Some look
+      looked look found =
+          ap (option_and_then (λ (l : LookOf). if l.rank == rank then Some l else None)) (r.looks ∙ found)
+          ∙ ap (λ b. if b then Some look else None) (eq-eqb look.rank rank (look_rank s rank look host.stand.spot r.made found))
 
       says : (sent : Sent) (rest : List Sent) (st : RunState) → host.stand.spot ≡ Saying sent rest st → said_in s image newest at ≡ Some (rank, sent)
       says sent rest st is = ap (λ (h : Happening). said_in s image h at) r.is ∙ ap (λ (spot : Spot). option_map (λ one. (rank, one)) (sent_next spot)) is
@@ -94,7 +105,7 @@ module _ (s : Settings) (t : Timing) (image : ℕ → List ℕ) (turn from to : 
       up_leads s t image from newest at (beat_besides s image from to turn t.loop_ms older newest at) (beats at) (beats (newest ∷ at))
       (beat_leads s image from to turn t.loop_ms older under apart some newest at since)
       (up_step s t image from older newer first events laws trace may (λ h a b. (awake h a b).is) newest at since back)
-      clock sends (ap is_live (awake (newest ∷ at) (Later newest since) back).is.up) (makers at since (before_tail back)) (beats_known at since (before_tail back))
+      clock (λ look is. tt) sends (ap is_live (awake (newest ∷ at) (Later newest since) back).is.up) (makers at since (before_tail back)) (beats_known at since (before_tail back))
     where
       here : IsAwake s image turn from at
       here = awake at since (before_tail back)

@@ -18,8 +18,8 @@ use Rattle.qn_model.specs.Log.{Line, now}
 use Rattle.qn_model.specs.NodeOutputs.{with_entry}
 use Rattle.qn_model.specs.Phases.{is_live, phase}
 use Rattle.qn_member.specs.Announcing.{is_beat}
-use Rattle.qn_member.specs.Maker.{Maker, after_announce, after_hello, after_tick, company_at, has_configured, hellos_after, installed_beside, is_configured, led_by, looked, of_rank, plain, says_more, view_at}
-use Rattle.qn_member.specs.Naming.{NamingMaker, after_named_announce, after_named_hello, after_stand, after_standing, first_naming, has_bit, is_other, is_own, knows_bit}
+use Rattle.qn_member.specs.Maker.{Maker, after_announce, after_hello, after_tick, company_at, enough_of, has_configured, hellos_after, installed_beside, is_configured, led_by, looked, of_rank, plain, said_in, says_more, view_at}
+use Rattle.qn_member.specs.Naming.{NamingMaker, after_named_announce, after_named_hello, after_stand, after_standing, first_naming, has_bit, is_other, is_own, is_passed_over, knows_bit, names_nobody, said_with}
 use Rattle.qn_member.specs.NamingViews.{after_by_name, after_found, after_look, after_naming_hello_due, after_plain_look, answer_at, company_now, is_naming_hello_due, is_naming_news_due, looked_by_name, seeing_names, view_announced, view_by_name}
 use Rattle.qn_live.specs.declared.words.Own.{Own}
 use Rattle.qn_live.specs.Choosing.{heard, told, view_or_tick}
@@ -28,7 +28,7 @@ use Rattle.qn_joined.specs.Joints.{Happening, joint_after}
 use Rattle.qn_joined.specs.Stands.{Ended, Looking, Acting, Parting, Polling, Receiving, Saying, Spot, Stand, first_stand}
 use Rattle.qn_service.proofs.Made.{leading_keeps, looked_notes}
 use Rattle.qn_service.proofs.RankSteps.{Anew, CallOf, Calls, Stands, StepTo, host_after, returned_spot, step_to}
-use Rattle.qn_service.proofs.TurnSteps.{Besides, KnownAt, MakerAt, MakerIs, Places, StepsLead, maker_asked, maker_left, spot_leads, spot_rests}
+use Rattle.qn_service.proofs.TurnSteps.{Besides, KnownAt, MakerIs, Places, StepsLead, maker_asked, maker_left, any_maker, spot_leads}
 
 -- ## A look
 
@@ -36,12 +36,14 @@ use Rattle.qn_service.proofs.TurnSteps.{Besides, KnownAt, MakerAt, MakerIs, Plac
 pub record KeepsHeard (before after : Maker) : Type 0 where
   pub nodes : after.nodes ≡ before.nodes
   pub own : after.me ≡ before.me
+  pub enough : after.enough ≡ before.enough
   pub hellos : after.hellos ≡ before.hellos
+  pub said : after.said ≡ before.said
   pub last : after.last_hello ≡ before.last_hello
 
 installed_heard : (company : Mask) (found : Option View) (k : Maker) → KeepsHeard k (installed_beside company found k)
-installed_heard company None k = record { nodes = refl; own = refl; hellos = refl; last = refl }
-installed_heard company (Some view) k = record { nodes = refl; own = refl; hellos = refl; last = refl }
+installed_heard company None k = record { nodes = refl; own = refl; enough = refl; hellos = refl; said = refl; last = refl }
+installed_heard company (Some view) k = record { nodes = refl; own = refl; enough = refl; hellos = refl; said = refl; last = refl }
 
 found_heard : (tick : ℕ) (m : NamingMaker) → KeepsHeard m.maker (after_found tick m).maker
 unfolding after_found after_tick
@@ -58,13 +60,15 @@ found_heard tick m = by_own (is_own m knows_bit)
         record {
           nodes = noted.nodes ∙ ap (λ (k : Maker). k.nodes) (looked_notes tick m);
           own = noted.own ∙ ap (λ (k : Maker). k.me) (looked_notes tick m);
+          enough = noted.enough ∙ ap (λ (k : Maker). k.enough) (looked_notes tick m);
           hellos = noted.hellos ∙ ap (λ (k : Maker). k.hellos) (looked_notes tick m);
+          said = noted.said ∙ ap (λ (k : Maker). k.said) (looked_notes tick m);
           last = noted.last ∙ ap (λ (k : Maker). k.last_hello) (looked_notes tick m);
         }
     by_own false =
         subst (KeepsHeard m.maker) (sym plain_look)
         (let kept = installed_heard (company_at (looked tick m.maker)) (view_at tick m.maker) (looked tick m.maker) in
-        record { nodes = kept.nodes; own = kept.own; hellos = kept.hellos; last = kept.last })
+        record { nodes = kept.nodes; own = kept.own; enough = kept.enough; hellos = kept.hellos; said = kept.said; last = kept.last })
 
 pub look_heard : (tick : ℕ) (m : NamingMaker) → KeepsHeard m.maker (after_look tick m).maker
 unfolding after_look
@@ -72,19 +76,28 @@ look_heard tick m = found_heard tick m
 
 -- ## What comes
 
--- the nodes stay, and so does the last Hello of the beat; the list of Hellos is as long
+-- the nodes stay, and so does the last Hello of the beat; the lists by rank are as long
 pub record KeepsBeat (before after : Maker) : Type 0 where
   pub nodes : after.nodes ≡ before.nodes
   pub own : after.me ≡ before.me
+  pub enough : after.enough ≡ before.enough
   pub places : length after.hellos ≡ length before.hellos
+  pub words : length after.said ≡ length before.said
   pub last : after.last_hello ≡ before.last_hello
 
 beat_same : (k : Maker) → KeepsBeat k k
-beat_same k = record { nodes = refl; own = refl; places = refl; last = refl }
+beat_same k = record { nodes = refl; own = refl; enough = refl; places = refl; words = refl; last = refl }
 
 beat_then : {a b c : Maker} → KeepsBeat a b → KeepsBeat b c → KeepsBeat a c
 beat_then first second =
-    record { nodes = second.nodes ∙ first.nodes; own = second.own ∙ first.own; places = second.places ∙ first.places; last = second.last ∙ first.last }
+    record {
+      nodes = second.nodes ∙ first.nodes;
+      own = second.own ∙ first.own;
+      enough = second.enough ∙ first.enough;
+      places = second.places ∙ first.places;
+      words = second.words ∙ first.words;
+      last = second.last ∙ first.last;
+    }
 
 if_beat : (b : Bool) (one other : NamingMaker) (k : Maker) → KeepsBeat k one.maker → KeepsBeat k other.maker → KeepsBeat k (if b then one else other).maker
 if_beat true one other k first second = first
@@ -96,7 +109,9 @@ if_maker false one other k first second = second
 
 hello_beat : (tick from : ℕ) (said : Said) (k : Maker) → KeepsBeat k (after_hello tick from said k)
 hello_beat tick from said k =
-    if_maker (is_configured k from) _ k k (record { nodes = refl; own = refl; places = length-set k.hellos from (Some tick); last = refl }) (beat_same k)
+    if_maker (is_configured k from) _ k k
+    (record { nodes = refl; own = refl; enough = refl; places = length-set k.hellos from (Some tick); words = length-set k.said from (Some (said_in k said)); last = refl })
+    (beat_same k)
 
 named_beat : (tick from : ℕ) (said : Said) (m : NamingMaker) → KeepsBeat m.maker (after_named_hello tick from said m).maker
 named_beat tick from said m = if_beat (is_other m from) _ _ m.maker (hello_beat tick from said m.maker) (hello_beat tick from said m.maker)
@@ -112,12 +127,20 @@ announce_beat : (from : ℕ) (view : View) (m : NamingMaker) → KeepsBeat m.mak
 announce_beat from view m =
     let counts = is_configured m.maker from && has_configured m.maker.nodes view.members in
     let kept : KeepsBeat m.maker (after_announce from view m.maker) =
-    if_maker counts _ m.maker m.maker (record { nodes = refl; own = refl; places = hellos_places from view m.maker; last = refl }) (beat_same m.maker) in
+    if_maker counts _ m.maker m.maker (record { nodes = refl; own = refl; enough = refl; places = hellos_places from view m.maker; words = refl; last = refl }) (beat_same m.maker) in
     if_beat counts _ _ m.maker kept kept
+
+said_places : (from flags : ℕ) (m : NamingMaker) → length (said_with m from flags) ≡ length m.maker.said
+said_places from flags m = by_passed (is_passed_over m from flags)
+  where
+    by_passed : (b : Bool) → length (if b then slice_set m.maker.said from (Some names_nobody) else m.maker.said) ≡ length m.maker.said
+    by_passed true = length-set m.maker.said from (Some names_nobody)
+    by_passed false = refl
 
 standing_beat : (from : ℕ) (standing : Standing) (m : NamingMaker) → KeepsBeat m.maker (after_standing from standing m).maker
 standing_beat from standing m =
-    if_beat (is_other m from && has_bit standing.flags knows_bit) _ m m.maker (record { nodes = refl; own = refl; places = refl; last = refl }) (beat_same m.maker)
+    if_beat (is_other m from && has_bit standing.flags knows_bit) _ m m.maker
+    (record { nodes = refl; own = refl; enough = refl; places = refl; words = said_places from standing.flags m; last = refl }) (beat_same m.maker)
 
 heard_beat : (tick : ℕ) (p : Option Packet) (m : NamingMaker) → KeepsBeat m.maker (heard tick p m).maker
 heard_beat tick None m = beat_same m.maker
@@ -140,7 +163,8 @@ told_beat tick own p m = beat_then (heard_beat tick p m) (stand_beat own.said ow
 pub looked_beat : (tick : ℕ) (own : Own) (p : Option Packet) (m : NamingMaker) → KeepsBeat m.maker (after_look tick (told tick own p m)).maker
 looked_beat tick own p m =
     let kept = look_heard tick (told tick own p m) in
-    beat_then (told_beat tick own p m) (record { nodes = kept.nodes; own = kept.own; places = ap length kept.hellos; last = kept.last })
+    beat_then (told_beat tick own p m)
+    (record { nodes = kept.nodes; own = kept.own; enough = kept.enough; places = ap length kept.hellos; words = ap length kept.said; last = kept.last })
 
 -- ## Whether a Hello is due
 
@@ -187,7 +211,9 @@ due_last tick m = by_beat (is_beat tick m.maker) refl
 -- a view maker whose lists have 32 places, by this log
 pub record IsSound (s : Settings) (log : List Line) (m : NamingMaker) : Type 0 where
   pub nodes : m.maker.nodes ≡ s.nodes
+  pub enough : m.maker.enough ≡ enough_of s
   pub places : length m.maker.hellos ≡ 32
+  pub words : length m.maker.said ≡ 32
   pub said : (tick : ℕ) → m.maker.last_hello ≡ Some tick → tick ≤ now log
 
 abbrev pub sound_places : Settings → Places
@@ -200,27 +226,31 @@ sound_places s =
     }
 
 abbrev nothing_besides : Besides
-nothing_besides = record { clock = λ log tick p. Unit {0}; sent = λ sent log. Unit {0}; log = λ log. Unit {0}; maker = λ m. Unit {0} }
+nothing_besides = record { clock = λ log tick p. Unit {0}; look = λ tick m. Unit {0}; sent = λ sent log. Unit {0}; log = λ log. Unit {0}; maker = λ m. Unit {0} }
 
 module _ (s : Settings) (me : ℕ) where
   later_sound : (log later : List Line) (before after : NamingMaker) → KeepsBeat before.maker after.maker → now log ≤ now later → IsSound s log before → IsSound s later after
   later_sound log later before after kept order sound =
       record {
         nodes = kept.nodes ∙ sound.nodes;
+        enough = kept.enough ∙ sound.enough;
         places = kept.places ∙ sound.places;
+        words = kept.words ∙ sound.words;
         said = λ tick is. let was = sound.said tick (sym kept.last ∙ is) in omega (arith, was, order);
       }
 
   begun_sound : (log : List Line) (loop_ms : ℕ) (own : Own) → IsSound s log (maker_begun s me loop_ms own)
   begun_sound log loop_ms own =
       let kept = stand_beat own.said own.holds (first_naming s me loop_ms) in
-      record { nodes = kept.nodes; places = kept.places; said = λ tick is. absurd (none-some tick (sym kept.last ∙ is)) }
+      record { nodes = kept.nodes; enough = kept.enough; places = kept.places; words = kept.words; said = λ tick is. absurd (none-some tick (sym kept.last ∙ is)) }
 
   due_sound : (log : List Line) (m : NamingMaker) → IsSound s log m → IsSound s log (after_naming_hello_due (now log) m)
   due_sound log m sound =
       record {
         nodes = ap (λ (k : Maker). k.nodes) same ∙ sound.nodes;
+        enough = ap (λ (k : Maker). k.enough) same ∙ sound.enough;
         places = ap (λ (k : Maker). length k.hellos) same ∙ sound.places;
+        words = ap (λ (k : Maker). length k.said) same ∙ sound.words;
         said = λ tick is. by_beat tick is (due_last (now log) m);
       }
     where
@@ -262,7 +292,7 @@ module _ (s : Settings) (me : ℕ) where
         waits = λ log had known. known;
         takes = λ log had tick p entry clock order makers known m is.
             later_sound log (with_entry s me log (record { tick = tick; what = entry })) m m (beat_same m.maker) order (known m is);
-        looks = λ log m tick own p clock order makers known n is.
+        looks = λ log m tick own p clock looking order makers known n is.
             subst (IsSound s (with_entry s me log (record { tick = tick; what = view_or_tick (answer_at tick (told tick own p m)) })))
             (same_Some (after_look tick (told tick own p m)) n is)
             (later_sound log (with_entry s me log (record { tick = tick; what = view_or_tick (answer_at tick (told tick own p m)) })) m
@@ -278,15 +308,6 @@ module _ (s : Settings) (me : ℕ) where
         parts = λ log had known. tt;
         ends = λ log known. tt;
       }
-
-any_maker : (spot : Spot) → MakerAt (λ m. Unit {0}) spot
-any_maker (Receiving st) = λ m is. tt
-any_maker (Looking chosen) = λ m is. tt
-any_maker (Acting entry outs o rest st) = λ m is. tt
-any_maker (Polling poll sents st) = λ m is. tt
-any_maker (Saying sent rest st) = λ m is. tt
-any_maker (Parting end sent rest st) = tt
-any_maker (Ended ran) = tt
 
 first_sound : (s : Settings) (clean : Bool) (polls : Option ℕ) (turns : ℕ) → KnownAt (sound_places s) (first_stand clean polls turns).spot
 first_sound s true polls turns = λ m is. absurd (none-some m is)
@@ -306,4 +327,4 @@ module _ (s : Settings) (image : ℕ → List ℕ) (rank : ℕ) where
           let host = host_after s image rank earlier in
           subst (KnownAt (sound_places s)) (sym (c.stand ∙ returned_spot s rank (joint_after s image earlier).time host c.made))
           (spot_leads s rank nothing_besides (sound_places s) (sound_places s) (sound_leads s rank) host.leave host.stand.turn host.stand.more host.stand.spot c.made
-          (λ chosen is. tt) (λ sent rest st is. tt) tt (any_maker host.stand.spot) before)
+          (λ chosen is. tt) (λ look is. tt) (λ sent rest st is. tt) tt (any_maker host.stand.spot) before)

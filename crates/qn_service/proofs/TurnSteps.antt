@@ -33,6 +33,7 @@ use Rattle.qn_live.specs.Running.{RunState}
 use Rattle.qn_live.specs.Runs.{asked_maker, greets, looked_at, taken}
 use Rattle.qn_joined.specs.Stands.{Acting, Ended, Looking, Parting, Polling, Receiving, Saying, Spot, acts_at, after_spot, begun_at, clocked_by, farewells_due, log_at, opening, parts_at, polled_at, said_at, sends_due, settled_by, taking}
 use Rattle.qn_service.specs.Hellos.{packet_chosen}
+use Rattle.qn_service.specs.Looks.{LookOf, look_at, look_by, look_in}
 use Rattle.qn_service.proofs.SpotLogs.{acts_log}
 
 -- what is known between two turns, while outputs are performed, while these greetings are left to send, and once the last turn is over
@@ -79,9 +80,11 @@ sends_left s me loop_ms own log had =
 abbrev pub log_with : Settings → ℕ → List Line → ℕ → What → List Line
 log_with s me log tick entry = with_entry s me log (record { tick = tick; what = entry })
 
--- What is known of a call besides: of the tick that a clock told, after a log, and the packet that came; of a greeting that was sent; of the log after it.
+-- What is known of a call besides: of the tick that a clock told, after a log, and the packet that came; of a look; of a greeting that was sent; of the
+-- log after it.
 pub record Besides : Type 1 where
   pub clock : List Line → ℕ → Option Packet → Type 0
+  pub look : ℕ → NamingMaker → Type 0
   pub sent : Sent → List Line → Type 0
   pub log : List Line → Type 0
   pub maker : NamingMaker → Type 0
@@ -91,8 +94,8 @@ pub record StepsLead (s : Settings) (me : ℕ) (b : Besides) (old new : Places) 
   pub waits : (log : List Line) (had : Option NamingMaker) → old.between log had → new.between log had
   pub takes : (log : List Line) (had : Option NamingMaker) (tick : ℕ) (p : Option Packet) (entry : What) → b.clock log tick p → now log ≤ tick → MakerIs b.maker had → old.between log had
       → new.acting (log_with s me log tick entry) had
-  pub looks : (log : List Line) (m : NamingMaker) (tick : ℕ) (own : Own) (p : Option Packet) → b.clock log tick p → now log ≤ tick → b.maker m → old.between log (Some m)
-      → new.acting (log_with s me log tick (view_or_tick (answer_at tick (told tick own p m)))) (Some (after_look tick (told tick own p m)))
+  pub looks : (log : List Line) (m : NamingMaker) (tick : ℕ) (own : Own) (p : Option Packet) → b.clock log tick p → b.look tick (told tick own p m) → now log ≤ tick → b.maker m
+      → old.between log (Some m) → new.acting (log_with s me log tick (view_or_tick (answer_at tick (told tick own p m)))) (Some (after_look tick (told tick own p m)))
   pub kept : (m : NamingMaker) (tick : ℕ) (own : Own) (p : Option Packet) → b.maker m → b.maker (after_look tick (told tick own p m))
   pub acts : (log : List Line) (had : Option NamingMaker) → old.acting log had → new.acting log had
   pub greets : (log : List Line) (had : Option NamingMaker) (loop_ms : ℕ) (own : Own) → b.log log → MakerIs b.maker had → new.acting log had
@@ -168,12 +171,13 @@ module _ (s : Settings) (me : ℕ) (b : Besides) (old new : Places) (lead : Step
 
   -- ## A look at the clock
 
-  clocked_open : (st : RunState) (tick : ℕ) (own : Own) (chosen : Choice) (had : Option NamingMaker) → b.clock st.log tick (packet_chosen chosen) → now st.log ≤ tick → MakerIs b.maker had
-      → old.between st.log had → new.acting (taken s me st tick (looked tick own chosen had)).log (looked tick own chosen had).0
-  clocked_open st tick own (choice.Whole entry) had clock order makers known = lead.takes st.log had tick None entry clock order makers known
-  clocked_open st tick own (choice.Answer reply) had clock order makers known = lead.takes st.log had tick None what.Tick clock order makers known
-  clocked_open st tick own (choice.Open p) None clock order makers known = lead.takes st.log None tick p what.Tick clock order makers known
-  clocked_open st tick own (choice.Open p) (Some m) clock order makers known = lead.looks st.log m tick own p clock order (makers m refl) known
+  clocked_open : (st : RunState) (tick : ℕ) (own : Own) (chosen : Choice) (had : Option NamingMaker) → b.clock st.log tick (packet_chosen chosen)
+      → ((look : LookOf) → look_in me tick own chosen had ≡ Some look → b.look look.tick look.maker) → now st.log ≤ tick → MakerIs b.maker had → old.between st.log had → new.acting (taken s me st tick (looked tick own chosen had)).log (looked tick own chosen had).0
+  clocked_open st tick own (choice.Whole entry) had clock looking order makers known = lead.takes st.log had tick None entry clock order makers known
+  clocked_open st tick own (choice.Answer reply) had clock looking order makers known = lead.takes st.log had tick None what.Tick clock order makers known
+  clocked_open st tick own (choice.Open p) None clock looking order makers known = lead.takes st.log None tick p what.Tick clock order makers known
+  clocked_open st tick own (choice.Open p) (Some m) clock looking order makers known =
+      lead.looks st.log m tick own p clock (looking (record { rank = me; tick = tick; maker = told tick own p m }) refl) order (makers m refl) known
 
   clocked_makers : (tick : ℕ) (own : Own) (chosen : Choice) (had : Option NamingMaker) → MakerIs b.maker had → MakerIs b.maker (looked tick own chosen had).0
   clocked_makers tick own (choice.Whole entry) had makers = makers
@@ -183,36 +187,38 @@ module _ (s : Settings) (me : ℕ) (b : Besides) (old new : Places) (lead : Step
       λ n is. subst b.maker (same_Some (after_look tick (told tick own p m)) n is) (lead.kept m tick own p (makers m refl))
 
   clocked_known : (leave : Option ℕ) (turn more tick : ℕ) (chosen : Choice × RunState) (back : Bool) → nat_lt tick (now chosen.1.log) ≡ back
-      → b.log (log_at (clocked_by s me leave turn more chosen tick back).spot) → b.clock chosen.1.log tick (packet_chosen chosen.0) → MakerIs b.maker chosen.1.maker → old.between chosen.1.log chosen.1.maker
+      → b.log (log_at (clocked_by s me leave turn more chosen tick back).spot) → b.clock chosen.1.log tick (packet_chosen chosen.0)
+      → ((look : LookOf) → (if back then None else look_by me tick (answered tick chosen)) ≡ Some look → b.look look.tick look.maker) → MakerIs b.maker chosen.1.maker → old.between chosen.1.log chosen.1.maker
       → KnownAt new (clocked_by s me leave turn more chosen tick back).spot
-  clocked_known leave turn more tick chosen true order logged clock makers known = lead.stops chosen.1.log chosen.1.maker (lead.waits chosen.1.log chosen.1.maker known)
-  clocked_known leave turn more tick chosen false order logged clock makers known =
+  clocked_known leave turn more tick chosen true order logged clock looks makers known = lead.stops chosen.1.log chosen.1.maker (lead.waits chosen.1.log chosen.1.maker known)
+  clocked_known leave turn more tick chosen false order logged clock looks makers known =
       let st = looking tick (answered tick chosen) in
       let found = looked_at tick (answered tick chosen) in
       let after = taken s me st tick found in
       acts_logged leave turn more found.1 (newest_outs after.log) (newest_outs after.log) after logged
       (clocked_makers tick (own_of st) (answered tick chosen).0 chosen.1.maker makers)
-      (clocked_open st tick (own_of st) (answered tick chosen).0 chosen.1.maker (subst (λ p. b.clock chosen.1.log tick p) (sym (answered_same tick chosen.1.poller chosen.0)) clock)
+      (clocked_open st tick (own_of st) (answered tick chosen).0 chosen.1.maker (subst (λ p. b.clock chosen.1.log tick p) (sym (answered_same tick chosen.1.poller chosen.0)) clock) looks
       (ltb-false tick (now chosen.1.log) order) makers known)
 
   -- ## A call
 
   pub spot_leads : (leave : Option ℕ) (turn more : ℕ) (spot : Spot) (made : Call)
       → ((chosen : Choice × RunState) → spot ≡ Looking chosen → b.clock chosen.1.log (time_of made) (packet_chosen chosen.0))
+      → ((look : LookOf) → look_at me spot made ≡ Some look → b.look look.tick look.maker)
       → ((sent : Sent) (rest : List Sent) (st : RunState) → spot ≡ Saying sent rest st → b.sent sent st.log)
       → b.log (log_at (after_spot s me leave turn more spot made).spot)
       → MakerAt b.maker spot → KnownAt old spot → KnownAt new (after_spot s me leave turn more spot made).spot
   unfolding after_spot
-  spot_leads leave turn more (Receiving st) made clock sends logged makers known = lead.waits st.log st.maker known
-  spot_leads leave turn more (Looking chosen) made clock sends logged makers known =
-      clocked_known leave turn more (time_of made) chosen (nat_lt (time_of made) (now chosen.1.log)) refl logged (clock chosen refl) makers known
-  spot_leads leave turn more (Acting entry outs o rest st) made clock sends logged makers known =
+  spot_leads leave turn more (Receiving st) made clock looks sends logged makers known = lead.waits st.log st.maker known
+  spot_leads leave turn more (Looking chosen) made clock looks sends logged makers known =
+      clocked_known leave turn more (time_of made) chosen (nat_lt (time_of made) (now chosen.1.log)) refl logged (clock chosen refl) looks makers known
+  spot_leads leave turn more (Acting entry outs o rest st) made clock looks sends logged makers known =
       acts_logged leave turn more entry outs rest (noted s o made st) logged makers (lead.acts st.log st.maker known)
-  spot_leads leave turn more (Polling poll sents st) made clock sends logged makers known = said_known leave turn more st sents (lead.polls sents st.log st.maker known)
-  spot_leads leave turn more (Saying sent rest st) made clock sends logged makers known =
+  spot_leads leave turn more (Polling poll sents st) made clock looks sends logged makers known = said_known leave turn more st sents (lead.polls sents st.log st.maker known)
+  spot_leads leave turn more (Saying sent rest st) made clock looks sends logged makers known =
       said_known leave turn more st rest (lead.says sent rest st.log st.maker (sends sent rest st refl) known)
-  spot_leads leave turn more (Parting end sent rest st) made clock sends logged makers known = parts_known turn more end st rest (lead.ends st.log known)
-  spot_leads leave turn more (Ended ran) made clock sends logged makers known = lead.ends ran.log known
+  spot_leads leave turn more (Parting end sent rest st) made clock looks sends logged makers known = parts_known turn more end st rest (lead.ends st.log known)
+  spot_leads leave turn more (Ended ran) made clock looks sends logged makers known = lead.ends ran.log known
 
   -- what is known where a run stands goes on without a call
   pub spot_rests : (spot : Spot) → KnownAt old spot → KnownAt new spot
@@ -223,3 +229,50 @@ module _ (s : Settings) (me : ℕ) (b : Besides) (old new : Places) (lead : Step
   spot_rests (Saying sent rest st) known = lead.polls (sent ∷ rest) st.log st.maker known
   spot_rests (Parting end sent rest st) known = lead.ends st.log known
   spot_rests (Ended ran) known = lead.ends ran.log known
+
+  -- after a look what is known of the view maker that it left is known where the run stands
+  open_looked : (look : LookOf) (log : List Line) (tick : ℕ) (own : Own) (c : Choice) (had : Option NamingMaker) → look_in me tick own c had ≡ Some look
+      → ((entry : What) → new.acting (log_with s me log look.tick entry) (Some (after_look look.tick look.maker)))
+      → new.acting (log_with s me log tick (looked tick own c had).1) (looked tick own c had).0
+  open_looked look log tick own (choice.Whole entry) had found left = absurd (none-some look found)
+  open_looked look log tick own (choice.Answer reply) had found left = absurd (none-some look found)
+  open_looked look log tick own (choice.Open p) None found left = absurd (none-some look found)
+  open_looked look log tick own (choice.Open p) (Some m) found left =
+      let entry : What = view_or_tick (answer_at tick (told tick own p m)) in
+      subst (λ (l : LookOf). new.acting (log_with s me log l.tick entry) (Some (after_look l.tick l.maker)))
+      (sym (same_Some (record { rank = me; tick = tick; maker = told tick own p m }) look found)) (left entry)
+
+  pub spot_looked : (look : LookOf) (leave : Option ℕ) (turn more : ℕ) (spot : Spot) (made : Call) → look_at me spot made ≡ Some look → MakerAt b.maker spot
+      → b.log (log_at (after_spot s me leave turn more spot made).spot)
+      → ((log : List Line) (entry : What) → new.acting (log_with s me log look.tick entry) (Some (after_look look.tick look.maker)))
+      → KnownAt new (after_spot s me leave turn more spot made).spot
+  unfolding after_spot
+  spot_looked look leave turn more (Looking chosen) made found makers logged left = by_order (nat_lt (time_of made) (now chosen.1.log)) found logged
+    where
+      by_order : (back : Bool) → (if back then None else look_by me (time_of made) (answered (time_of made) chosen)) ≡ Some look
+          → b.log (log_at (clocked_by s me leave turn more chosen (time_of made) back).spot) → KnownAt new (clocked_by s me leave turn more chosen (time_of made) back).spot
+      by_order true none logged = absurd (none-some look none)
+      by_order false here logged =
+          let tick = time_of made in
+          let st = looking tick (answered tick chosen) in
+          let got = looked_at tick (answered tick chosen) in
+          let after = taken s me st tick got in
+          acts_logged leave turn more got.1 (newest_outs after.log) (newest_outs after.log) after logged
+          (clocked_makers tick (own_of st) (answered tick chosen).0 chosen.1.maker makers)
+          (open_looked look chosen.1.log tick (own_of st) (answered tick chosen).0 chosen.1.maker here (left chosen.1.log))
+  spot_looked look leave turn more (Receiving st) made found makers logged left = absurd (none-some look found)
+  spot_looked look leave turn more (Acting entry outs o rest st) made found makers logged left = absurd (none-some look found)
+  spot_looked look leave turn more (Polling poll sents st) made found makers logged left = absurd (none-some look found)
+  spot_looked look leave turn more (Saying sent rest st) made found makers logged left = absurd (none-some look found)
+  spot_looked look leave turn more (Parting end sent rest st) made found makers logged left = absurd (none-some look found)
+  spot_looked look leave turn more (Ended ran) made found makers logged left = absurd (none-some look found)
+
+-- nothing is asked of the view makers
+pub any_maker : (spot : Spot) → MakerAt (λ m. Unit {0}) spot
+any_maker (Receiving st) = λ m is. tt
+any_maker (Looking chosen) = λ m is. tt
+any_maker (Acting entry outs o rest st) = λ m is. tt
+any_maker (Polling poll sents st) = λ m is. tt
+any_maker (Saying sent rest st) = λ m is. tt
+any_maker (Parting end sent rest st) = tt
+any_maker (Ended ran) = tt

@@ -1,5 +1,5 @@
 -- What running nodes say to one another, when a look hears it, and how soon. This project's profile.
-use Rattle.std.specs.Prelude.{◌≡◌, ◌≤◌, ◌<◌, ◌+◌, ◌*◌, ◌/◌, ℕ, true, List, ◌∷◌, ◌++◌, length, Option, None, Some, option_map}
+use Rattle.std.specs.Prelude.{◌≡◌, ◌≤◌, ◌<◌, ◌+◌, ◌*◌, ◌/◌, ℕ, true, false, List, ◌∷◌, ◌++◌, length, Option, None, Some, option_map}
 use Rattle.qn_base.specs.declared.ids.Said.{Said}
 use Rattle.qn_base.specs.declared.ids.Standing.{Standing}
 use Rattle.qn_base.specs.declared.ids.View.{View}
@@ -12,7 +12,7 @@ use Rattle.qn_model.specs.declared.times.Timing.{Timing}
 use Rattle.qn_model.specs.Log.{now}
 use Rattle.qn_model.specs.Moments.{Before}
 use Rattle.qn_model.specs.Wanted.{rank_of}
-use Rattle.qn_member.specs.Maker.{is_heard}
+use Rattle.qn_member.specs.Maker.{is_heard, is_visible}
 use Rattle.qn_live.specs.declared.place.Choice.{Choice}
 use Rattle.qn_live.specs.declared.place.Choice.TheVariants as choice
 use Rattle.qn_joined.specs.Joints.{Begins, Ends, Feeds, Happening, IsJoined, Lands, LandsLate, Looks, Operates, Passes, Returns, joint_after}
@@ -166,3 +166,63 @@ LooksHear s t =
     → look_of_rank s image to happening at ≡ Some look
     → 100 * hello_ticks t turn post + 99 * (joint_after s image older).time ≤ 99 * (joint_after s image at).time
     → is_heard look.tick look.maker.maker from ≡ true
+
+-- ## Who is seen
+
+-- between two joints a view maker looks at least each so many ticks of its clock
+pub record HasLooked (s : Settings) (image : ℕ → List ℕ) (gaze rank : ℕ) (old new : List Happening) : Type 0 where
+  pub at : List Happening
+  pub happening : Happening
+  pub look : LookOf
+  pub after : Before old at
+  pub back : Before (happening ∷ at) new
+  pub is : look_of_rank s image rank happening at ≡ Some look
+  pub soon : clock_at s image new rank ≤ clock_at s image at rank + gaze
+
+abbrev pub LooksOften : Settings → (ℕ → List ℕ) → ℕ → ℕ → List Happening → List Happening → Type 0
+LooksOften s image gaze rank old new =
+    (at : List Happening)
+    → Before old at → Before at new
+    → clock_at s image old rank + gaze < clock_at s image at rank
+    → HasLooked s image gaze rank old at
+
+-- one rank said a Hello to another one between two joints, at most so many ticks of the clock of the other before the new one
+pub record WasSaid (s : Settings) (image : ℕ → List ℕ) (from to post : ℕ) (said : Said) (standing : Standing) (old new : List Happening) : Type 0 where
+  pub at : List Happening
+  pub happening : Happening
+  pub after : Before old at
+  pub back : Before (happening ∷ at) new
+  pub says : Says s image from to (packet.Heard (rank_of from) said standing) happening at
+  pub soon : clock_at s image new to ≤ clock_at s image at to + post
+
+-- each Hello of a rank that comes between two joints was said by it since the old one, and is no older
+abbrev pub HellosAreOwn : Settings → (ℕ → List ℕ) → ℕ → ℕ → ℕ → List Happening → List Happening → Type 0
+HellosAreOwn s image post from to old new =
+    (at : List Happening) (said : Said) (standing : Standing)
+    → Before old at → Before at new
+    → packet_to_hear s image to at ≡ Some (packet.Heard (rank_of from) said standing)
+    → WasSaid s image from to post said standing old at
+
+-- One rank stays in sight of another one: each is near the other, it looks often, and its Hellos are its own.
+pub record InSight (s : Settings) (t : Timing) (image : ℕ → List ℕ) (turn post gaze from to : ℕ) (old new : List Happening) : Type 0 where
+  pub here : IsNear s t image turn post from to old new
+  pub there : IsNear s t image turn post to from old new
+  pub looks : LooksOften s image gaze from old new
+  pub own : HellosAreOwn s image post from to old new
+  pub two_node : s.two_node ≡ false
+
+-- by then a look of the one has heard the other, what it says since has come, and nothing of before can come
+abbrev pub sight_ticks : Timing → ℕ → ℕ → ℕ → ℕ
+sight_ticks t turn post gaze = hello_ticks t turn post + hello_ticks t turn post + gaze + post + 4
+
+-- then each look sees it: its last Hello came within three loops, and names the node
+abbrev pub LooksSee : Settings → Timing → Type 0
+LooksSee s t =
+    (image : ℕ → List ℕ) (turn post gaze from to : ℕ) (newer older at : List Happening) (happening : Happening) (look : LookOf)
+    → IsJoined s t image (newer ++ older)
+    → InSight s t image turn post gaze from to older (newer ++ older)
+    → Before older at
+    → Before (happening ∷ at) (newer ++ older)
+    → look_of_rank s image to happening at ≡ Some look
+    → 100 * sight_ticks t turn post gaze + 99 * (joint_after s image older).time ≤ 99 * (joint_after s image at).time
+    → is_visible look.tick look.maker.maker from ≡ true

@@ -1,7 +1,7 @@
 //! The laws of what running nodes say and hear.
 ghost use Rattle.qn_model.specs.declared.configuration.Settings.{Settings};
 ghost use Rattle.qn_model.specs.declared.times.Timing.{Timing};
-ghost use Rattle.qn_service.specs.Hellos.{HellosAreSaid, LooksHear};
+ghost use Rattle.qn_service.specs.Hellos.{HellosAreSaid, LooksHear, LooksSee};
 
 /// Law: a node that is up and keeps its pace says a Hello to each other one at least each half loop and two turns.
 pub fn law_hellos_are_said()
@@ -18,6 +18,17 @@ pub fn law_hellos_are_said()
 /// farewell, once a beat, some turns and the way of a packet have passed.
 pub fn law_looks_hear()
     ensures { (s : Settings) (t : Timing) → LooksHear s t }
+{
+    qn_safety::law_any_runs_are_timed();
+    qn_safety::law_clocks();
+    qn_sector::law_read_back();
+    qn_joined::law_worlds();
+    qn_joined::law_each_is_one_event();
+}
+
+/// Law: each look of such a node sees each other one that stays in sight: of which the last Hello came within three loops, and names it.
+pub fn law_looks_see()
+    ensures { (s : Settings) (t : Timing) → LooksSee s t }
 {
     qn_safety::law_any_runs_are_timed();
     qn_safety::law_clocks();

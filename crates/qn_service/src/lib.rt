@@ -30,7 +30,7 @@ mod looks;
 mod owners;
 mod serving;
 
-pub use hellos::{law_hellos_are_said, law_looks_hear};
+pub use hellos::{law_hellos_are_said, law_looks_hear, law_looks_see};
 pub use laws::{law_nobody_is_reset, law_reset_is_met, law_resets_the_unheard};
 pub use looks::{
     law_company_is_view, law_followers_take_it, law_least_members_made_it, law_left_out,
