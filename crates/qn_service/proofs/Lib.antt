@@ -9,9 +9,11 @@ pub mod Everywhere
 pub mod Flags
 pub mod Followers
 pub mod FreshHellos
+pub mod FoundSets
 pub mod GoingOn
 pub mod Handing
 pub mod Heard
+mod HelloRows
 pub mod Holders
 pub mod Holding
 pub mod JointClocks
@@ -25,7 +27,9 @@ pub mod LogViews
 pub mod Made
 pub mod NearHellos
 pub mod NearLooks
+mod NearRuns
 pub mod NextLooks
+pub mod OldHellos
 pub mod OneStop
 pub mod OneView
 pub mod Outside

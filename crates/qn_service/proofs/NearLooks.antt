@@ -42,7 +42,7 @@ use Rattle.qn_service.proofs.KeptLoops.{loop_of, told_keeps}
 use Rattle.qn_service.proofs.Made.{filtered}
 use Rattle.qn_service.proofs.NearHellos.{makers_loop, old_world}
 use Rattle.qn_service.proofs.RankSteps.{host_after, returned_spot}
-use Rattle.qn_service.proofs.SaidHellos.{hello_said, some_loop, up_leads}
+use Rattle.qn_service.proofs.SaidHellos.{hello_said, look_made, some_loop, up_leads}
 use Rattle.qn_service.proofs.Sound.{always_sound}
 use Rattle.qn_service.proofs.Tracing.{Traced, traced}
 use Rattle.qn_service.proofs.TurnSteps.{Besides, KnownAt, MakerAt, Places, StepsLead, any_maker}
@@ -220,22 +220,14 @@ module _ (s : Settings) (t : Timing) (worlds : EveryJointHasAWorld s t) (one : E
       (ap is_live (near.hearer (newest ∷ at) (Later newest (before_then after order)) until).is.up) (any_maker (host_after s image to at).stand.spot)
       (fresh_on P plain_so since base at after order (before_tail until) so known)
 
-  -- a look of the rank is a call that returned
-  pub look_made : (newest : Happening) (at : List Happening) (look : LookOf) → Before older at → Before (newest ∷ at) all → look_of_rank s image to newest at ≡ Some look
+  pub made_look : (newest : Happening) (at : List Happening) (look : LookOf) → Before older at → Before (newest ∷ at) all → look_of_rank s image to newest at ≡ Some look
       → (r : ReturnOf s t image to newest at) × (look_at to (host_after s image to at).stand.spot r.made ≡ Some look)
-  look_made newest at look since until found = by_step (to_step newest at since until)
-    where
-      parts : (look_of s image newest at ≡ Some look) × ((look.rank == to) ≡ true)
-      parts = filtered (λ (l : LookOf). l.rank == to) (look_of s image newest at) look found
-
-      by_step : UpStep s t image to newest at → (r : ReturnOf s t image to newest at) × (look_at to (host_after s image to at).stand.spot r.made ≡ Some look)
-      by_step (Still same none) = absurd (false≢true (sym (none look parts.0) ∙ parts.1))
-      by_step (Made r) = (r, sym r.looks ∙ parts.0)
+  made_look newest at look since until found = look_made s t image to newest at look (to_step newest at since until) found
 
   look_tick : (newest : Happening) (at : List Happening) (look : LookOf) → Before older at → Before (newest ∷ at) all → look_of_rank s image to newest at ≡ Some look
       → look.tick ≡ clock_at s image at to
   look_tick newest at look since until found =
-      let made = look_made newest at look since until found in
+      let made = made_look newest at look since until found in
       let is = look_is to (host_after s image to at).stand.spot made.0.made look made.1 in
       is.tick ∙ made.0.told is.chosen is.is
 
@@ -254,7 +246,7 @@ module _ (s : Settings) (t : Timing) (worlds : EveryJointHasAWorld s t) (one : E
       host = host_after s image to h.at
 
       made : (r : ReturnOf s t image to h.happening h.at) × (look_at to (host_after s image to h.at).stand.spot r.made ≡ Some h.look)
-      made = look_made h.happening h.at h.look (before_then after h.after) h.back h.is
+      made = made_look h.happening h.at h.look (before_then after h.after) h.back h.is
 
       there : (host_after s image to (h.happening ∷ h.at)).stand.spot ≡ (after_spot s to host.leave host.stand.turn host.stand.more host.stand.spot made.0.made).spot
       there = made.0.stand ∙ returned_spot s to (joint_after s image h.at).time host made.0.made
@@ -341,7 +333,7 @@ module _ (s : Settings) (t : Timing) (worlds : EveryJointHasAWorld s t) (one : E
         omega (arith, enough, grows, told)
 
     made : (r : ReturnOf s t image to happening at) × (look_at to (host_after s image to at).stand.spot r.made ≡ Some look)
-    made = look_made happening at look since until found
+    made = made_look happening at look since until found
 
     is : LookIs (host_after s image to at).stand.spot made.0.made look
     is = look_is to (host_after s image to at).stand.spot made.0.made look made.1

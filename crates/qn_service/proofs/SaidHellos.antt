@@ -1,7 +1,7 @@
 -- From joint to joint a running node that is up and keeps its pace has said a Hello to each other one lately.
 use Rattle.std.proofs.Common.{◌≡◌, ◌⊎◌, inl, inr, ℕ, ◌+◌, ◌*◌, ◌/◌, ◌<◌, ◌≤◌, Bool, true, false, ◌&&◌, ◌==◌, List, [], ◌∷◌, ◌++◌, Option, None, Some, if◌then◌else◌, length, refl, sym, ◌∙◌, ap, subst, arith}
 use Rattle.std.specs.Prelude.{IsTrue, option_and_then, option_map}
-use Rattle.std.proofs.lemmas.Bool.{and_parts, eq-eqb, leb-true}
+use Rattle.std.proofs.lemmas.Bool.{and_parts, eq-eqb, false≢true, leb-true}
 use Rattle.qn_base.specs.declared.calls.Call.{Call}
 use Rattle.qn_io.specs.Answered.{time_of}
 use Rattle.qn_model.specs.declared.configuration.Settings.{Settings}
@@ -19,7 +19,7 @@ use Rattle.qn_live.specs.Running.{RunState}
 use Rattle.qn_joined.specs.Joints.{AllMayHappen, Happening, Host, Returns, joint_after}
 use Rattle.qn_joined.specs.Stands.{Acting, Ended, Looking, Parting, Polling, Receiving, Saying, Spot, Stand, after_spot, log_at}
 use Rattle.qn_service.specs.Hellos.{IsAwake, SaidHello, StaysAwake, beat_ticks, packet_chosen, said_in, sent_next}
-use Rattle.qn_service.specs.Looks.{LookOf, look_at}
+use Rattle.qn_service.specs.Looks.{LookOf, look_at, look_of}
 use Rattle.qn_service.specs.NextLooks.{look_of_rank}
 use Rattle.qn_service.specs.Serving.{clock_at}
 use Rattle.qn_service.specs.Unheard.{log_after}
@@ -27,6 +27,7 @@ use Rattle.qn_service.proofs.Beats.{Beats, WasSaid, beat_besides, beat_leads, be
 use Rattle.qn_service.proofs.JointClocks.{ClockLaws, Made, ReturnOf, Still, UpStep, read_at, up_step}
 use Rattle.qn_service.proofs.KeptLoops.{loop_of}
 use Rattle.qn_service.proofs.KeptViews.{look_rank}
+use Rattle.qn_service.proofs.Made.{filtered}
 use Rattle.qn_service.proofs.RankSteps.{host_after, returned_spot}
 use Rattle.qn_service.proofs.Sound.{always_sound}
 use Rattle.qn_service.proofs.Timing.{WorksAt}
@@ -85,6 +86,18 @@ module _ (s : Settings) (t : Timing) (image : ℕ → List ℕ) (rank : ℕ) (ne
 
       says : (sent : Sent) (rest : List Sent) (st : RunState) → host.stand.spot ≡ Saying sent rest st → said_in s image newest at ≡ Some (rank, sent)
       says sent rest st is = ap (λ (h : Happening). said_in s image h at) r.is ∙ ap (λ (spot : Spot). option_map (λ one. (rank, one)) (sent_next spot)) is
+
+-- a look of a rank that is up is a call that returned
+pub look_made : (s : Settings) (t : Timing) (image : ℕ → List ℕ) (rank : ℕ) (newest : Happening) (at : List Happening) (look : LookOf) → UpStep s t image rank newest at
+    → look_of_rank s image rank newest at ≡ Some look → (r : ReturnOf s t image rank newest at) × (look_at rank (host_after s image rank at).stand.spot r.made ≡ Some look)
+look_made s t image rank newest at look step found = by_step step
+  where
+    parts : (look_of s image newest at ≡ Some look) × ((look.rank == rank) ≡ true)
+    parts = filtered (λ (l : LookOf). l.rank == rank) (look_of s image newest at) look found
+
+    by_step : UpStep s t image rank newest at → (r : ReturnOf s t image rank newest at) × (look_at rank (host_after s image rank at).stand.spot r.made ≡ Some look)
+    by_step (Still same none) = absurd (false≢true (sym (none look parts.0) ∙ parts.1))
+    by_step (Made r) = (r, sym r.looks ∙ parts.0)
 
 -- ## A node that keeps its pace
 

@@ -33,7 +33,7 @@ use Rattle.qn_service.proofs.ByTheImage.{HeadersReadBack}
 use Rattle.qn_service.proofs.FreshHellos.{KnowsHello, LookIs, SaysSo, look_is, sound_before}
 use Rattle.qn_service.proofs.JointClocks.{ClockLaws, ClocksRun, ReturnOf}
 use Rattle.qn_service.proofs.LogViews.{always_shown}
-use Rattle.qn_service.proofs.NearLooks.{LastBefore, SaysSoFrom, from_runs, heard_it, hears_by, hello, knows, look_hears, look_made, mid, to_runs, to_step}
+use Rattle.qn_service.proofs.NearLooks.{LastBefore, SaysSoFrom, from_runs, heard_it, hears_by, hello, knows, look_hears, made_look, mid, to_runs, to_step}
 use Rattle.qn_service.proofs.RankSteps.{host_after, returned_spot}
 use Rattle.qn_service.proofs.SaidHellos.{up_leads}
 use Rattle.qn_service.proofs.SaidNames.{hello_names, look_names, named_besides, named_leads, named_places}
@@ -124,7 +124,7 @@ module _ (s : Settings) (t : Timing) (worlds : EveryJointHasAWorld s t) (one : E
       look_names look.tick to look.maker configured (look_hears s t worlds one back laws image turn post to from newer older joined sight.there at newest look since until found late)
     where
       made : (r : ReturnOf s t image from newest at) × (look_at from (host_after s image from at).stand.spot r.made ≡ Some look)
-      made = look_made s t worlds one back laws image turn post to from newer older joined sight.there newest at look since until found
+      made = made_look s t worlds one back laws image turn post to from newer older joined sight.there newest at look since until found
 
       is : LookIs (host_after s image from at).stand.spot made.0.made look
       is = look_is from (host_after s image from at).stand.spot made.0.made look made.1
@@ -176,7 +176,7 @@ module _ (s : Settings) (t : Timing) (worlds : EveryJointHasAWorld s t) (one : E
       host = host_after s image from at
 
       made : (r : ReturnOf s t image from newest at) × (look_at from (host_after s image from at).stand.spot r.made ≡ Some look)
-      made = look_made s t worlds one back laws image turn post to from newer older joined sight.there newest at look since until found
+      made = made_look s t worlds one back laws image turn post to from newer older joined sight.there newest at look since until found
 
       there : (host_after s image from (newest ∷ at)).stand.spot
           ≡ (after_spot s from host.leave host.stand.turn host.stand.more host.stand.spot made.0.made).spot
@@ -272,7 +272,7 @@ module _ (s : Settings) (t : Timing) (worlds : EveryJointHasAWorld s t) (one : E
         ∙ (told_beat (time_of made.0.made) is.own (packet_chosen is.chosen.0) is.before).own ∙ (shown.turns.fine.maker is.before is.had).known.own
       where
         made : (r : ReturnOf s t image to happening at) × (look_at to (host_after s image to at).stand.spot r.made ≡ Some look)
-        made = look_made s t worlds one back laws image turn post from to newer older joined sight.here happening at look since until found
+        made = made_look s t worlds one back laws image turn post from to newer older joined sight.here happening at look since until found
 
         is : LookIs (host_after s image to at).stand.spot made.0.made look
         is = look_is to (host_after s image to at).stand.spot made.0.made look made.1

@@ -1,5 +1,6 @@
 -- What running nodes say to one another, when a look hears it, and how soon. This project's profile.
-use Rattle.std.specs.Prelude.{◌≡◌, ◌≤◌, ◌<◌, ◌+◌, ◌*◌, ◌/◌, ℕ, true, false, List, ◌∷◌, ◌++◌, length, Option, None, Some, option_map}
+use Rattle.std.specs.Prelude.{◌≡◌, ◌≤◌, ◌<◌, ◌+◌, ◌*◌, ◌/◌, ◌==◌, ℕ, Bool, true, false, max, List, ◌∷◌, ◌++◌, length, Option, None, Some, option_map}
+use Rattle.qn_base.specs.declared.ids.Mask.{Mask}
 use Rattle.qn_base.specs.declared.ids.Said.{Said}
 use Rattle.qn_base.specs.declared.ids.Standing.{Standing}
 use Rattle.qn_base.specs.declared.ids.View.{View}
@@ -11,6 +12,7 @@ use Rattle.qn_model.specs.declared.packets.Sent.{Sent}
 use Rattle.qn_model.specs.declared.times.Timing.{Timing}
 use Rattle.qn_model.specs.Log.{now}
 use Rattle.qn_model.specs.Moments.{Before}
+use Rattle.qn_model.specs.Timing.{is_safe}
 use Rattle.qn_model.specs.Wanted.{rank_of}
 use Rattle.qn_member.specs.Maker.{is_heard, is_visible}
 use Rattle.qn_live.specs.declared.place.Choice.{Choice}
@@ -167,6 +169,28 @@ LooksHear s t =
     → 100 * hello_ticks t turn post + 99 * (joint_after s image older).time ≤ 99 * (joint_after s image at).time
     → is_heard look.tick look.maker.maker from ≡ true
 
+-- the premises are met: in some joined run with safe times they are so, and that time has passed before a look
+pub record HellosAreMet : Type 0 where
+  pub settings : Settings
+  pub timing : Timing
+  pub image : ℕ → List ℕ
+  pub turn : ℕ
+  pub post : ℕ
+  pub from : ℕ
+  pub to : ℕ
+  pub newer : List Happening
+  pub older : List Happening
+  pub at : List Happening
+  pub happening : Happening
+  pub look : LookOf
+  pub safe : is_safe timing ≡ true
+  pub joined : IsJoined settings timing image (newer ++ older)
+  pub near : IsNear settings timing image turn post from to older (newer ++ older)
+  pub since : Before older at
+  pub until : Before (happening ∷ at) (newer ++ older)
+  pub is : look_of_rank settings image to happening at ≡ Some look
+  pub late : 100 * hello_ticks timing turn post + 99 * (joint_after settings image older).time ≤ 99 * (joint_after settings image at).time
+
 -- ## Who is seen
 
 -- between two joints a view maker looks at least each so many ticks of its clock
@@ -226,3 +250,43 @@ LooksSee s t =
     → look_of_rank s image to happening at ≡ Some look
     → 100 * sight_ticks t turn post gaze + 99 * (joint_after s image older).time ≤ 99 * (joint_after s image at).time
     → is_visible look.tick look.maker.maker from ≡ true
+
+-- ## A set of nodes
+
+-- a packet is a Hello of a rank
+abbrev pub is_hello_of : ℕ → Option Packet → Bool
+is_hello_of rank (Some (packet.Hello from)) = from.0 == rank
+is_hello_of rank (Some (packet.Heard from said standing)) = from.0 == rank
+is_hello_of rank (Some (packet.Announce from view)) = false
+is_hello_of rank (Some (packet.Ask ask)) = false
+is_hello_of rank (Some (packet.Tell tell)) = false
+is_hello_of rank (Some (packet.Vote agrees)) = false
+is_hello_of rank None = false
+
+-- From one joint to another the nodes of a set are up and keep their pace, each stays in sight of each other one, and no Hello of a node outside
+-- comes to one of them.
+pub record StaysTogether (s : Settings) (t : Timing) (image : ℕ → List ℕ) (turn post gaze : ℕ) (set : Mask) (old new : List Happening) : Type 0 where
+  pub configured : (rank : ℕ) → is_member set rank ≡ true → rank < length s.nodes
+  pub awake : (rank : ℕ) → is_member set rank ≡ true → StaysAwake s image turn rank old new
+  pub sight : (rank other : ℕ) → is_member set rank ≡ true → is_member set other ≡ true → ¬ (other ≡ rank)
+      → InSight s t image turn post gaze other rank old new
+  pub apart : (rank other : ℕ) → is_member set rank ≡ true → is_member set other ≡ false
+      → (at : List Happening) → Before old at → Before at new → is_hello_of other (packet_to_hear s image rank at) ≡ false
+
+-- by then each of them was seen, and what came before of others is three loops old
+abbrev pub find_ticks : Timing → ℕ → ℕ → ℕ → ℕ
+find_ticks t turn post gaze = max (sight_ticks t turn post gaze) (3 * t.loop_ms + 1)
+
+-- then each look of one of them sees just these
+abbrev pub LooksFindSets : Settings → Timing → Type 0
+LooksFindSets s t =
+    (image : ℕ → List ℕ) (turn post gaze : ℕ) (set : Mask) (rank : ℕ) (newer older at : List Happening) (happening : Happening) (look : LookOf)
+    → IsJoined s t image (newer ++ older)
+    → StaysTogether s t image turn post gaze set older (newer ++ older)
+    → is_member set rank ≡ true
+    → Before older at
+    → Before (happening ∷ at) (newer ++ older)
+    → look_of_rank s image rank happening at ≡ Some look
+    → 100 * find_ticks t turn post gaze + 99 * (joint_after s image older).time ≤ 99 * (joint_after s image at).time
+    → (other : ℕ) → other < length s.nodes
+    → is_visible look.tick look.maker.maker other ≡ is_member set other

@@ -1,7 +1,7 @@
 //! The laws of what running nodes say and hear.
 ghost use Rattle.qn_model.specs.declared.configuration.Settings.{Settings};
 ghost use Rattle.qn_model.specs.declared.times.Timing.{Timing};
-ghost use Rattle.qn_service.specs.Hellos.{HellosAreSaid, LooksHear, LooksSee};
+ghost use Rattle.qn_service.specs.Hellos.{HellosAreMet, HellosAreSaid, LooksFindSets, LooksHear, LooksSee};
 
 /// Law: a node that is up and keeps its pace says a Hello to each other one at least each half loop and two turns.
 pub fn law_hellos_are_said()
@@ -36,3 +36,20 @@ pub fn law_looks_see()
     qn_joined::law_worlds();
     qn_joined::law_each_is_one_event();
 }
+
+/// Law: so each look of a node of a set whose nodes stay in sight of one another, and to which no Hello of another node comes, sees just the set.
+pub fn law_looks_find_sets()
+    ensures { (s : Settings) (t : Timing) → LooksFindSets s t }
+{
+    qn_safety::law_any_runs_are_timed();
+    qn_safety::law_clocks();
+    qn_sector::law_read_back();
+    qn_joined::law_worlds();
+    qn_joined::law_each_is_one_event();
+    law_looks_see();
+}
+
+/// The premises of `law_looks_hear` are met, and so are those of `law_hellos_are_said`: in a joined run with safe times a node hears another one.
+pub fn law_hellos_are_met()
+    ensures { HellosAreMet }
+{}
