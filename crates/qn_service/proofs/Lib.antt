@@ -8,8 +8,9 @@ pub mod Early
 pub mod Everywhere
 pub mod Flags
 pub mod Followers
-pub mod FreshHellos
+pub mod FoundCompanies
 pub mod FoundSets
+pub mod FreshHellos
 pub mod GoingOn
 pub mod Handing
 pub mod Heard
@@ -38,17 +39,19 @@ pub mod RankSteps
 pub mod Ranks
 pub mod Resets
 mod Rows
-pub mod ServedBy
 pub mod SaidHellos
 pub mod SaidNames
 pub mod SeenLooks
+pub mod ServedBy
 mod ServingRows
 pub mod Shown
 pub mod Sound
 pub mod SpotLogs
 pub mod Steps
+pub mod Telling
 pub mod Timing
 pub mod Tracing
 pub mod TurnSteps
+pub mod Waking
 pub mod Walking
 pub mod WellRows

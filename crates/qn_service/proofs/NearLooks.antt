@@ -50,7 +50,7 @@ use Rattle.qn_service.proofs.TurnSteps.{Besides, KnownAt, MakerAt, Places, Steps
 -- ## The newest line of a log
 
 -- no line is later than a tick
-abbrev early_places : ℕ → Places
+abbrev pub early_places : ℕ → Places
 early_places limit =
     record {
       between = λ log had. now log ≤ limit;
@@ -59,10 +59,10 @@ early_places limit =
       over = λ log. now log ≤ limit;
     }
 
-abbrev early_besides : ℕ → Besides
+abbrev pub early_besides : ℕ → Besides
 early_besides limit = record { clock = λ log tick p. tick ≤ limit; look = λ tick m. Unit {0}; sent = λ sent log. Unit {0}; log = λ log. Unit {0}; maker = λ m. Unit {0} }
 
-early_leads : (s : Settings) (me limit : ℕ) → StepsLead s me (early_besides limit) (early_places limit) (early_places limit)
+pub early_leads : (s : Settings) (me limit : ℕ) → StepsLead s me (early_besides limit) (early_places limit) (early_places limit)
 unfolding with_entry
 early_leads s me limit =
     record {
@@ -80,7 +80,7 @@ early_leads s me limit =
       ends = λ log known. known;
     }
 
-early_in : (limit : ℕ) (spot : Spot) → now (log_at spot) ≤ limit → KnownAt (early_places limit) spot
+pub early_in : (limit : ℕ) (spot : Spot) → now (log_at spot) ≤ limit → KnownAt (early_places limit) spot
 early_in limit (Receiving st) early = early
 early_in limit (Looking chosen) early = early
 early_in limit (Acting entry outs o rest st) early = early
@@ -89,7 +89,7 @@ early_in limit (Saying sent rest st) early = early
 early_in limit (Parting end sent rest st) early = early
 early_in limit (Ended ran) early = early
 
-early_out : (limit : ℕ) (spot : Spot) → KnownAt (early_places limit) spot → now (log_at spot) ≤ limit
+pub early_out : (limit : ℕ) (spot : Spot) → KnownAt (early_places limit) spot → now (log_at spot) ≤ limit
 early_out limit (Receiving st) early = early
 early_out limit (Looking chosen) early = early
 early_out limit (Acting entry outs o rest st) early = early

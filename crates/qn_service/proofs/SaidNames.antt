@@ -60,7 +60,7 @@ pub look_names : (tick to : ℕ) (m : NamingMaker) → to < length m.maker.nodes
 look_names tick to m under heard =
     ap (λ (set : Mask). is_member set to) (look_says tick m) ∙ passes_in (is_heard tick m.maker) (length m.maker.nodes) to under heard
 
-due_says : (tick : ℕ) (m : NamingMaker) → (after_naming_hello_due tick m).maker.says ≡ m.maker.says
+pub due_says : (tick : ℕ) (m : NamingMaker) → (after_naming_hello_due tick m).maker.says ≡ m.maker.says
 due_says tick m = by_due (is_naming_hello_due tick m)
   where
     by_due : (b : Bool) → (if b
@@ -221,7 +221,7 @@ named_leads s me to =
 -- ## What is said
 
 -- who says a packet is about to send it
-says_next : (s : Settings) (image : ℕ → List ℕ) (from : ℕ) (sent : Sent) (newest : Happening) (earlier : List Happening) → said_in s image newest earlier ≡ Some (from, sent)
+pub says_next : (s : Settings) (image : ℕ → List ℕ) (from : ℕ) (sent : Sent) (newest : Happening) (earlier : List Happening) → said_in s image newest earlier ≡ Some (from, sent)
     → sent_next (host_after s image from earlier).stand.spot ≡ Some sent
 says_next s image from sent (Returns rank made) earlier says = by_next (sent_next (host_after s image rank earlier).stand.spot) refl says
   where

@@ -28,12 +28,14 @@
 //! (`law_looks_see`). So each look of a node of a set whose nodes stay in sight of one another sees just the set (`law_looks_find_sets`).
 #![tactic(auto)]
 
+mod agreeing;
 mod hellos;
 mod laws;
 mod looks;
 mod owners;
 mod serving;
 
+pub use agreeing::law_companies_are_found;
 pub use hellos::{
     law_hellos_are_met, law_hellos_are_said, law_looks_find_sets, law_looks_hear, law_looks_see,
 };

@@ -1,0 +1,16 @@
+//! The laws of running nodes whose looks agree on a leader.
+ghost use Rattle.qn_model.specs.declared.configuration.Settings.{Settings};
+ghost use Rattle.qn_model.specs.declared.times.Timing.{Timing};
+ghost use Rattle.qn_service.specs.Agreeing.{CompaniesAreFound};
+
+/// Law: where each look of some nodes sees just them and finds the same leader, each look of that leader finds all of them in company, once
+/// they have looked and what they say since has come.
+pub fn law_companies_are_found()
+    ensures { (s : Settings) (t : Timing) → CompaniesAreFound s t }
+{
+    qn_safety::law_any_runs_are_timed();
+    qn_safety::law_clocks();
+    qn_sector::law_read_back();
+    qn_joined::law_worlds();
+    qn_joined::law_each_is_one_event();
+}
