@@ -18,7 +18,7 @@ use Rattle.qn_model.specs.Moments.{Before, Itself, Later}
 use Rattle.qn_model.specs.Wanted.{rank_of}
 use Rattle.qn_member.specs.Maker.{Maker, after_tick, company_at, followed, follows_of, follows_other, forgotten_nodes, installed_beside, is_forgotten, is_visible, leader_at, least_of, led_by, looked, of_rank, plain, ranks_that, view_at, visible_nodes}
 use Rattle.qn_member.specs.Naming.{NamingMaker, facts_of, follows_follower, followed_by_name, is_led_by_name, is_own, knows_all, knows_bit, leader_by_name, led_by_name, names_nobody}
-use Rattle.qn_member.specs.NamingViews.{after_by_name, after_found, after_look, after_naming_hello_due, after_plain_look, company_now, facts_seen, followed_now, is_naming_hello_due, looked_by_name, said_by_name, seeing_names, view_by_name}
+use Rattle.qn_member.specs.NamingViews.{after_by_name, after_found, after_look, after_naming_hello_due, after_plain_look, company_now, facts_seen, followed_now, is_naming_hello_due, looked_by_name, said_by_name, seeing_names, view_announced, view_by_name}
 use Rattle.qn_safety.specs.Earlier.{before_joined, before_tail, before_then}
 use Rattle.qn_joined.specs.Joints.{Happening, IsJoined, joint_after}
 use Rattle.qn_joined.specs.Moves.{EachIsOneEvent}
@@ -39,7 +39,7 @@ use Rattle.qn_service.proofs.NearLooks.{LastBefore, SaysSoFrom, heard_it, hello,
 use Rattle.qn_service.proofs.Ranks.{fails_out, passes_in}
 use Rattle.qn_service.proofs.RankSteps.{host_after}
 use Rattle.qn_service.proofs.SaidNames.{due_says}
-use Rattle.qn_service.proofs.Telling.{EachLeaves, Telling, says_late}
+use Rattle.qn_service.proofs.Telling.{EachLeaves, EachSays, Telling, greetings_say, says_late}
 use Rattle.qn_service.proofs.Waking.{IsLate, clocks_of, late_still, own_of_look, ticks_before, time_grows}
 
 -- ## Whom a node follows
@@ -82,15 +82,23 @@ look_follows tick leader m knows leads =
 abbrev HelloFollows : ℕ → Packet → Type 0
 HelloFollows leader p = (from : Rank) (said : Said) (standing : Standing) → p ≡ packet.Heard from said standing → FollowsOnly leader said
 
+hello_follows : (leader rank : ℕ) (m : NamingMaker) → FollowsOnly leader m.maker.says → HelloFollows leader (packet.Heard (rank_of rank) m.maker.says m.stands)
+hello_follows leader rank m holds from said standing is = let same : m.maker.says ≡ said = cc in subst (λ (words : Said). FollowsOnly leader words) same holds
+
+none_follows : (leader rank : ℕ) (announced : Option View) → IfSome announced (λ view. HelloFollows leader (packet.Announce (rank_of rank) view))
+none_follows leader rank None = tt
+none_follows leader rank (Some view) = λ from said standing is. absurd cc
+
 -- so do its Hellos
-abbrev follows_telling : (leader rank : ℕ) → Telling rank
-follows_telling leader rank =
+abbrev follows_telling : (s : Settings) (leader rank : ℕ) → Telling s rank
+follows_telling s leader rank =
     record {
       holds = λ m. FollowsOnly leader m.maker.says;
-      says = HelloFollows leader;
+      sends = EachSays (HelloFollows leader);
       due = λ tick m holds. subst (λ (said : Said). FollowsOnly leader said) (sym (due_says tick m)) holds;
-      hello = λ m holds from said standing is. let same : m.maker.says ≡ said = cc in subst (λ (words : Said). FollowsOnly leader words) same holds;
-      announce = λ m view holds announced from said standing is. absurd cc;
+      none = tt;
+      greets = λ m holds. greetings_say s rank (HelloFollows leader) m (hello_follows leader rank m holds) (none_follows leader rank (view_announced m));
+      rest = λ sent more so. so.1;
     }
 
 -- ## Whom a leader leads
@@ -225,12 +233,12 @@ module _ (s : Settings) (t : Timing) (worlds : EveryJointHasAWorld s t) (one : E
       says_so : (said : Said) (standing : Standing) (newest : Happening) (h : List Happening) → Before older h → Before (newest ∷ h) all
           → Says s image rank leader (packet.Heard (rank_of rank) said standing) newest h → IsLate s image (gaze + 2) older h → FollowsOnly leader said
       says_so said standing newest h after before says late_then =
-          says_late s t worlds one back laws image turn gaze rank newer older joined following.near.sender following.looks (follows_telling leader rank)
+          (says_late s t worlds one back laws image turn gaze rank newer older joined following.near.sender following.looks (follows_telling s leader rank)
           (λ b n l a u f. look_follows l.tick leader l.maker
           (looks_know_names s image n b l joined.fits.few (subst (λ r. r < length s.nodes) (sym (rank_is n b l f)) following.near.configured.0)
           (filtered (λ (x : LookOf). x.rank == rank) (look_of s image n b) l f).0)
           ((agree.finds rank member b n l a u f).leads))
-          leader (packet.Heard (rank_of rank) said standing) newest h after before says late_then (rank_of rank) said standing refl
+          leader (packet.Heard (rank_of rank) said standing) newest h after before says late_then).sends.0 (rank_of rank) said standing refl
         where
           rank_is : (n : Happening) (b : List Happening) (l : LookOf) → look_of_rank s image rank n b ≡ Some l → l.rank ≡ rank
           rank_is n b l f = eqb-true l.rank rank (filtered (λ (x : LookOf). x.rank == rank) (look_of s image n b) l f).1

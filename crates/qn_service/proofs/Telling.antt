@@ -1,5 +1,5 @@
 -- What the looks of a running node leave its view maker with, it says from then on.
-use Rattle.std.proofs.Common.{◌≡◌, ◌⊎◌, inl, inr, ℕ, suc, zero, ◌+◌, ◌*◌, ◌<◌, ◌≤◌, Bool, true, false, List, [], ◌∷◌, ◌++◌, Option, None, Some, length, refl, sym, ◌∙◌, ap, subst}
+use Rattle.std.proofs.Common.{◌≡◌, ◌⊎◌, inl, inr, ℕ, suc, zero, ◌+◌, ◌*◌, ◌<◌, ◌≤◌, Bool, true, false, List, [], ◌∷◌, ◌++◌, Option, None, Some, IfSome, length, refl, sym, ◌∙◌, ap, subst}
 use Rattle.std.specs.Prelude.{option_map}
 use Rattle.std.specs.Option.{option_map_or}
 use Rattle.std.proofs.lemmas.Bool.{false≢true}
@@ -17,7 +17,8 @@ use Rattle.qn_model.specs.Wanted.{rank_of}
 use Rattle.qn_member.specs.Naming.{NamingMaker}
 use Rattle.qn_member.specs.NamingViews.{after_look, after_naming_hello_due, is_naming_hello_due, view_announced}
 use Rattle.qn_live.specs.Choosing.{told}
-use Rattle.qn_live.specs.Greetings.{announcements, greeting_packet, hello_of, hellos_where, maker_begun, maker_where, others_from, said_after, to_each}
+use Rattle.qn_live.specs.Greetings.{announcements, greeting_packet, hello_of, hellos_where, maker_begun, maker_where, others_from, said_after, to_each, to_send}
+use Rattle.qn_live.specs.Running.{RunState}
 use Rattle.qn_safety.specs.Earlier.{before_tail, before_then}
 use Rattle.qn_joined.specs.Joints.{Happening, IsJoined, joint_after}
 use Rattle.qn_joined.specs.Moves.{EachIsOneEvent}
@@ -35,14 +36,16 @@ use Rattle.qn_service.proofs.SaidNames.{says_next}
 use Rattle.qn_service.proofs.TurnSteps.{Besides, KnownAt, Places, StepsLead, any_maker}
 use Rattle.qn_service.proofs.Waking.{IsLate, clocks_of, known_after, late_still, live_of, step_of, ticks_before, ticks_passed, time_grows}
 
--- What is so of a view maker, and of each packet that it says then.
-pub record Telling (me : ℕ) : Type 1 where
+-- What is so of a view maker, and of what it is then to send.
+pub record Telling (s : Settings) (me : ℕ) : Type 1 where
   pub holds : NamingMaker → Type 0
-  pub says : Packet → Type 0
+  pub sends : List Sent → Type 0
   pub due : (tick : ℕ) (m : NamingMaker) → holds m → holds (after_naming_hello_due tick m)
-  pub hello : (m : NamingMaker) → holds m → says (packet.Heard (rank_of me) m.maker.says m.stands)
-  pub announce : (m : NamingMaker) (view : View) → holds m → view_announced m ≡ Some view → says (packet.Announce (rank_of me) view)
+  pub none : sends []
+  pub greets : (m : NamingMaker) → holds m → sends (to_send s me (Some m) (hello_of m) 0)
+  pub rest : (sent : Sent) (more : List Sent) → sends (sent ∷ more) → sends more
 
+-- each packet that is to be sent is so
 abbrev pub EachSays : (Packet → Type 0) → List Sent → Type 0
 EachSays says [] = Unit {0}
 EachSays says (sent ∷ rest) = says sent.packet × EachSays says rest
@@ -55,27 +58,28 @@ both_say : (says : Packet → Type 0) (front behind : List Sent) → EachSays sa
 both_say says [] behind first second = second
 both_say says (sent ∷ front) behind (so, first) second = (so, both_say says front behind first second)
 
+announced_say : (s : Settings) (me : ℕ) (says : Packet → Type 0) (announced : Option View) → IfSome announced (λ view. says (packet.Announce (rank_of me) view))
+    → EachSays says (announcements s me announced)
+announced_say s me says None so = tt
+announced_say s me says (Some view) so = to_each_says says (packet.Announce (rank_of me) view) (others_from s me 0) so
+
+pub greetings_say : (s : Settings) (me : ℕ) (says : Packet → Type 0) (m : NamingMaker) → says (packet.Heard (rank_of me) m.maker.says m.stands)
+    → IfSome (view_announced m) (λ view. says (packet.Announce (rank_of me) view)) → EachSays says (to_send s me (Some m) (hello_of m) 0)
+greetings_say s me says m hello announces =
+    both_say says (to_each (greeting_packet me (hello_of m)) (others_from s me 0)) (said_after s me (Some m) (hello_of m))
+    (to_each_says says (greeting_packet me (hello_of m)) (others_from s me 0) hello) (announced_say s me says (view_announced m) announces)
+
 -- there is a view maker that is so
-pub record HasTold {me : ℕ} (w : Telling me) (had : Option NamingMaker) : Type 0 where
+pub record HasTold {s : Settings} {me : ℕ} (w : Telling s me) (had : Option NamingMaker) : Type 0 where
   pub maker : NamingMaker
   pub is : had ≡ Some maker
   pub holds : w.holds maker
 
-module _ (s : Settings) (me : ℕ) (w : Telling me) where
-  announced_say : (m : NamingMaker) → w.holds m → (announced : Option View) → view_announced m ≡ announced → EachSays w.says (announcements s me announced)
-  announced_say m holds None is = tt
-  announced_say m holds (Some view) is = to_each_says w.says (packet.Announce (rank_of me) view) (others_from s me 0) (w.announce m view holds is)
-
-  hellos_say : (due : Bool) (had : Option NamingMaker) → HasTold w had → EachSays w.says (hellos_where due s me had)
-  hellos_say false had told = tt
+module _ (s : Settings) (me : ℕ) (w : Telling s me) where
+  hellos_say : (due : Bool) (had : Option NamingMaker) → HasTold w had → w.sends (hellos_where due s me had)
+  hellos_say false had told = w.none
   hellos_say true None told = absurd (none-some told.maker told.is)
-  hellos_say true (Some m) told =
-      both_say w.says (to_each (greeting_packet me (hello_of m)) (others_from s me 0)) (said_after s me (Some m) (hello_of m))
-      (to_each_says w.says (greeting_packet me (hello_of m)) (others_from s me 0) (w.hello m holds))
-      (announced_say m holds (view_announced m) refl)
-    where
-      holds : w.holds m
-      holds = subst (λ (k : NamingMaker). w.holds k) (sym (same_Some m told.maker told.is)) told.holds
+  hellos_say true (Some m) told = w.greets m (subst (λ (k : NamingMaker). w.holds k) (sym (same_Some m told.maker told.is)) told.holds)
 
   left_told : (tick : ℕ) (live : Bool) (begun : NamingMaker) (had : Option NamingMaker) → live ≡ true → HasTold w had
       → HasTold w (option_map (after_naming_hello_due tick) (maker_where live begun had))
@@ -93,7 +97,7 @@ module _ (s : Settings) (me : ℕ) (w : Telling me) where
       record {
         between = λ log had. HasTold w had;
         acting = λ log had. HasTold w had;
-        saying = λ sents log had. HasTold w had × EachSays w.says sents;
+        saying = λ sents log had. HasTold w had × w.sends sents;
         over = λ log. Unit {0};
       }
 
@@ -123,16 +127,24 @@ module _ (s : Settings) (me : ℕ) (w : Telling me) where
                   (option_map (after_naming_hello_due (now log)) (maker_where (is_live (phase s log)) (maker_begun s me loop_ms own) had)) left,
             );
         polls = λ sents log had known. known;
-        says = λ sent rest log had says known. (known.0, known.1.1);
+        says = λ sent more log had says known. (known.0, w.rest sent more known.1);
         said = λ log had known. known.0;
         stops = λ log had known. tt;
         parts = λ log had known. tt;
         ends = λ log known. tt;
       }
 
-  -- so what is about to be said is so
-  next_says : (spot : Spot) (sent : Sent) → sent_next spot ≡ Some sent → KnownAt told_places spot → w.says sent.packet
-  next_says (Saying one rest st) sent next known = subst (λ (it : Sent). w.says it.packet) (same_Some one sent next) known.1.0
+  -- where a packet is about to be said, what is left to send is so
+  pub record IsSaying (sent : Sent) (spot : Spot) : Type 0 where
+    pub rest : List Sent
+    pub st : RunState
+    pub is : spot ≡ Saying sent rest st
+    pub sends : w.sends (sent ∷ rest)
+
+  next_says : (spot : Spot) (sent : Sent) → sent_next spot ≡ Some sent → KnownAt told_places spot → IsSaying sent spot
+  next_says (Saying one rest st) sent next known =
+      let same : one ≡ sent = same_Some one sent next in
+      record { rest = rest; st = st; is = ap (λ (it : Sent). Saying it rest st) same; sends = subst (λ (it : Sent). w.sends (it ∷ rest)) same known.1 }
   next_says (Receiving st) sent next known = absurd (none-some sent next)
   next_says (Looking chosen) sent next known = absurd (none-some sent next)
   next_says (Acting entry outs o rest st) sent next known = absurd (none-some sent next)
@@ -150,7 +162,7 @@ EachLeaves s image rank IsSo old new =
 
 module _ (s : Settings) (t : Timing) (worlds : EveryJointHasAWorld s t) (one : EachIsOneEvent s t) (back : HeadersReadBack) (laws : ClockLaws)
     (image : ℕ → List ℕ) (turn gaze rank : ℕ) (newer older : List Happening) (joined : IsJoined s t image (newer ++ older)) (awake : StaysAwake s image turn rank older (newer ++ older))
-    (often : LooksOften s image gaze rank older (newer ++ older)) (w : Telling rank) (leaves : EachLeaves s image rank w.holds older (newer ++ older)) where
+    (often : LooksOften s image gaze rank older (newer ++ older)) (w : Telling s rank) (leaves : EachLeaves s image rank w.holds older (newer ++ older)) where
   told_on : (base at : List Happening) → Before older base → Before base at → Before at (newer ++ older)
       → KnownAt (told_places s rank w) (host_after s image rank base).stand.spot → KnownAt (told_places s rank w) (host_after s image rank at).stand.spot
   told_on base at after Itself until known = known
@@ -183,9 +195,10 @@ module _ (s : Settings) (t : Timing) (worlds : EveryJointHasAWorld s t) (one : E
           (ticks_passed gaze (host_after s image rank older).clock (host_after s image rank at).clock (joint_after s image older).time (joint_after s image at).time
           (clocks_of s t worlds one back laws image turn rank newer older joined awake older at Itself since until).slow late)
 
-  -- and so is each packet that it says then
+  -- and so is what it is to send where it says a packet then
   pub says_late : (to : ℕ) (p : Packet) (happening : Happening) (at : List Happening) → Before older at → Before (happening ∷ at) (newer ++ older)
-      → Says s image rank to p happening at → IsLate s image (gaze + 2) older at → w.says p
+      → Says s image rank to p happening at → IsLate s image (gaze + 2) older at
+      → IsSaying s rank w (record { to = rank_of to; packet = p }) (host_after s image rank at).stand.spot
   says_late to p happening at since until says late =
       next_says s rank w (host_after s image rank at).stand.spot (record { to = rank_of to; packet = p })
       (says_next s image rank (record { to = rank_of to; packet = p }) happening at says)

@@ -1,6 +1,6 @@
 -- One rank that stays awake from joint to joint: its steps, its clock, and its looks.
 use Rattle.std.proofs.Common.{◌≡◌, ◌⊎◌, inl, inr, ℕ, ◌+◌, ◌*◌, ◌/◌, ◌<◌, ◌≤◌, Bool, true, false, ◌==◌, List, ◌∷◌, ◌++◌, Option, Some, length, refl, sym, ◌∙◌, ap, subst, arith}
-use Rattle.std.proofs.lemmas.Bool.{cases_lt, false≢true}
+use Rattle.std.proofs.lemmas.Bool.{cases_lt}
 use Rattle.qn_io.specs.Answered.{time_of}
 use Rattle.qn_model.specs.declared.configuration.Settings.{Settings}
 use Rattle.qn_model.specs.declared.times.Timing.{Timing}
@@ -16,18 +16,17 @@ use Rattle.qn_joined.specs.Moves.{EachIsOneEvent}
 use Rattle.qn_joined.specs.Stands.{Spot, after_spot, log_at}
 use Rattle.qn_joined.specs.WorldOf.{EveryJointHasAWorld, HasWorld}
 use Rattle.qn_service.specs.Hellos.{StaysAwake, packet_chosen}
-use Rattle.qn_service.specs.Looks.{LookOf, look_at, look_of}
+use Rattle.qn_service.specs.Looks.{LookOf, look_at}
 use Rattle.qn_service.specs.NextLooks.{look_of_rank}
 use Rattle.qn_service.specs.Serving.{clock_at}
 use Rattle.qn_service.specs.Unheard.{log_after}
 use Rattle.qn_service.proofs.ByTheImage.{HeadersReadBack}
 use Rattle.qn_service.proofs.FreshHellos.{LookIs, look_is}
-use Rattle.qn_service.proofs.JointClocks.{ClockLaws, ClocksRun, Made, ReturnOf, Still, UpStep, clocks_run, read_at, up_step}
-use Rattle.qn_service.proofs.Made.{filtered}
+use Rattle.qn_service.proofs.JointClocks.{ClockLaws, ClocksRun, ReturnOf, UpStep, clocks_run, read_at, up_step}
 use Rattle.qn_service.proofs.NearHellos.{old_world}
 use Rattle.qn_service.proofs.NearLooks.{early_besides, early_in, early_leads, early_out, early_places}
 use Rattle.qn_service.proofs.RankSteps.{host_after, returned_spot}
-use Rattle.qn_service.proofs.SaidHellos.{up_leads}
+use Rattle.qn_service.proofs.SaidHellos.{look_made, up_leads}
 use Rattle.qn_service.proofs.LogViews.{always_shown}
 use Rattle.qn_service.proofs.Shown.{Chooses, ShownAt}
 use Rattle.qn_service.proofs.Sound.{told_beat}
@@ -140,14 +139,7 @@ module _ (s : Settings) (t : Timing) (worlds : EveryJointHasAWorld s t) (one : E
   -- a look of the rank is a call that returned
   pub look_by_call : (newest : Happening) (at : List Happening) (look : LookOf) → Before older at → Before (newest ∷ at) all → look_of_rank s image rank newest at ≡ Some look
       → (r : ReturnOf s t image rank newest at) × (look_at rank (host_after s image rank at).stand.spot r.made ≡ Some look)
-  look_by_call newest at look since until found = by_step (step_of newest at since until)
-    where
-      parts : (look_of s image newest at ≡ Some look) × ((look.rank == rank) ≡ true)
-      parts = filtered (λ (l : LookOf). l.rank == rank) (look_of s image newest at) look found
-
-      by_step : UpStep s t image rank newest at → (r : ReturnOf s t image rank newest at) × (look_at rank (host_after s image rank at).stand.spot r.made ≡ Some look)
-      by_step (Still same none) = absurd (false≢true (sym (none look parts.0) ∙ parts.1))
-      by_step (Made r) = (r, sym r.looks ∙ parts.0)
+  look_by_call newest at look since until found = look_made s t image rank newest at look (step_of newest at since until) found
 
   pub tick_of_look : (newest : Happening) (at : List Happening) (look : LookOf) → Before older at → Before (newest ∷ at) all → look_of_rank s image rank newest at ≡ Some look
       → look.tick ≡ clock_at s image at rank
