@@ -82,10 +82,10 @@ look_follows tick leader m knows leads =
 abbrev HelloFollows : ℕ → Packet → Type 0
 HelloFollows leader p = (from : Rank) (said : Said) (standing : Standing) → p ≡ packet.Heard from said standing → FollowsOnly leader said
 
-hello_follows : (leader rank : ℕ) (m : NamingMaker) → FollowsOnly leader m.maker.says → HelloFollows leader (packet.Heard (rank_of rank) m.maker.says m.stands)
+pub hello_follows : (leader rank : ℕ) (m : NamingMaker) → FollowsOnly leader m.maker.says → HelloFollows leader (packet.Heard (rank_of rank) m.maker.says m.stands)
 hello_follows leader rank m holds from said standing is = let same : m.maker.says ≡ said = cc in subst (λ (words : Said). FollowsOnly leader words) same holds
 
-none_follows : (leader rank : ℕ) (announced : Option View) → IfSome announced (λ view. HelloFollows leader (packet.Announce (rank_of rank) view))
+pub none_follows : (leader rank : ℕ) (announced : Option View) → IfSome announced (λ view. HelloFollows leader (packet.Announce (rank_of rank) view))
 none_follows leader rank None = tt
 none_follows leader rank (Some view) = λ from said standing is. absurd cc
 

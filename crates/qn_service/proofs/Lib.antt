@@ -1,3 +1,5 @@
+pub mod AnnouncedViews
+pub mod Announcing
 pub mod Beats
 pub mod Between
 pub mod ByTheImage
@@ -14,6 +16,7 @@ pub mod FreshHellos
 pub mod GoingOn
 pub mod Handing
 pub mod Heard
+pub mod HeardViews
 mod HelloRows
 pub mod Holders
 pub mod Holding

@@ -10,12 +10,12 @@ use Rattle.qn_model.specs.Moments.{Before, Itself, Later}
 use Rattle.qn_model.specs.Phases.{is_live, phase}
 use Rattle.qn_member.specs.Naming.{NamingMaker}
 use Rattle.qn_member.specs.NamingViews.{after_look}
-use Rattle.qn_safety.specs.Earlier.{before_joined, before_tail, before_then}
+use Rattle.qn_safety.specs.Earlier.{before_joined, before_tail, before_then, before_total}
 use Rattle.qn_joined.specs.Joints.{Happening, Host, IsJoined, joint_after}
 use Rattle.qn_joined.specs.Moves.{EachIsOneEvent}
 use Rattle.qn_joined.specs.Stands.{Spot, after_spot, log_at}
 use Rattle.qn_joined.specs.WorldOf.{EveryJointHasAWorld, HasWorld}
-use Rattle.qn_service.specs.Hellos.{StaysAwake, packet_chosen}
+use Rattle.qn_service.specs.Hellos.{SaidHello, StaysAwake, beat_ticks, packet_chosen}
 use Rattle.qn_service.specs.Looks.{LookOf, look_at}
 use Rattle.qn_service.specs.NextLooks.{look_of_rank}
 use Rattle.qn_service.specs.Serving.{clock_at}
@@ -23,10 +23,10 @@ use Rattle.qn_service.specs.Unheard.{log_after}
 use Rattle.qn_service.proofs.ByTheImage.{HeadersReadBack}
 use Rattle.qn_service.proofs.FreshHellos.{LookIs, look_is}
 use Rattle.qn_service.proofs.JointClocks.{ClockLaws, ClocksRun, ReturnOf, UpStep, clocks_run, read_at, up_step}
-use Rattle.qn_service.proofs.NearHellos.{old_world}
+use Rattle.qn_service.proofs.NearHellos.{makers_loop, old_world}
 use Rattle.qn_service.proofs.NearLooks.{early_besides, early_in, early_leads, early_out, early_places}
 use Rattle.qn_service.proofs.RankSteps.{host_after, returned_spot}
-use Rattle.qn_service.proofs.SaidHellos.{look_made, up_leads}
+use Rattle.qn_service.proofs.SaidHellos.{hello_said, look_made, some_loop, up_leads}
 use Rattle.qn_service.proofs.LogViews.{always_shown}
 use Rattle.qn_service.proofs.Shown.{Chooses, ShownAt}
 use Rattle.qn_service.proofs.Sound.{told_beat}
@@ -133,6 +133,32 @@ module _ (s : Settings) (t : Timing) (worlds : EveryJointHasAWorld s t) (one : E
 
   pub last_since : (ticks : ℕ) (new : List Happening) → Before older new → Before new all → clock_at s image older rank + ticks < clock_at s image new rank → LastSince ticks new
   last_since ticks new since until starts = since_of ticks new new since Itself until starts (omega arith)
+
+  -- a joint of an earlier clock is an earlier one
+  pub before_by_clock : (newest : Happening) (h at : List Happening) → Before older h → Before (newest ∷ h) all → Before older at → Before at all
+      → clock_at s image h rank < clock_at s image at rank → Before (newest ∷ h) at
+  before_by_clock newest h at after until since before less = by_place (before_total until before)
+    where
+      never : Before at h → ⊥
+      never order = let grows = clock_grows at h since order (before_tail until) in omega (arith, grows, less)
+
+      tail_of : {a b : Happening} {first second : List Happening} → a ∷ first ≡ b ∷ second → first ≡ second
+      tail_of e = cc
+
+      by_newest : {joint : List Happening} → Before at joint → joint ≡ newest ∷ h → Before (newest ∷ h) at
+      by_newest Itself is = subst (λ (x : List Happening). Before x at) is Itself
+      by_newest (Later more {new = earlier} up_to) is = absurd (never (subst (λ (x : List Happening). Before at x) (tail_of is) up_to))
+
+      by_place : Before (newest ∷ h) at ⊎ Before at (newest ∷ h) → Before (newest ∷ h) at
+      by_place (inl earlier) = earlier
+      by_place (inr later) = by_newest later refl
+
+  -- it has said a Hello to another one lately
+  pub hello_by : (to : ℕ) → to < length s.nodes → (to ≡ rank → ⊥) → (at : List Happening) → Before older at → Before at all
+      → clock_at s image older rank + beat_ticks t turn < clock_at s image at rank → SaidHello s image rank to (beat_ticks t turn) older at
+  hello_by to under apart =
+      hello_said s t image turn rank to older all has.events it.events laws it.trace joined.may awake
+      (makers_loop s t worlds back image newer older joined turn rank awake) under apart (some_loop t joined.fits.times)
 
   -- ## Its looks
 

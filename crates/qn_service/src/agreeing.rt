@@ -2,11 +2,24 @@
 ghost use Rattle.qn_model.specs.declared.configuration.Settings.{Settings};
 ghost use Rattle.qn_model.specs.declared.times.Timing.{Timing};
 ghost use Rattle.qn_service.specs.Agreeing.{CompaniesAreFound};
+ghost use Rattle.qn_service.specs.Announced.{AnnouncementsCome};
 
 /// Law: where each look of some nodes sees just them and finds the same leader, each look of that leader finds all of them in company, once
 /// they have looked and what they say since has come.
 pub fn law_companies_are_found()
     ensures { (s : Settings) (t : Timing) → CompaniesAreFound s t }
+{
+    qn_safety::law_any_runs_are_timed();
+    qn_safety::law_clocks();
+    qn_sector::law_read_back();
+    qn_joined::law_worlds();
+    qn_joined::law_each_is_one_event();
+}
+
+/// Law: the view that each look of a rank leaves it with to announce is what each look of another one has of it, once a Hello of the beat was
+/// said and the announcement after that has come.
+pub fn law_announcements_come()
+    ensures { (s : Settings) (t : Timing) → AnnouncementsCome s t }
 {
     qn_safety::law_any_runs_are_timed();
     qn_safety::law_clocks();
