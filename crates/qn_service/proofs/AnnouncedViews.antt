@@ -21,21 +21,21 @@ use Rattle.qn_joined.specs.Moves.{EachIsOneEvent}
 use Rattle.qn_joined.specs.Stands.{Looking}
 use Rattle.qn_joined.specs.WorldOf.{EveryJointHasAWorld}
 use Rattle.qn_service.specs.Announced.{AnnouncementsCome, IsAnnouncing, WasSaidLately, announce_ticks}
-use Rattle.qn_service.specs.Hellos.{IsHeardBy, SaidHello, Says, beat_ticks, packet_chosen, packet_waiting}
+use Rattle.qn_service.specs.Hellos.{IsHeardBy, SaidHello, Says, beat_ticks, packet_chosen, packet_to_hear, packet_waiting}
 use Rattle.qn_service.specs.Looks.{LookOf, look_at}
 use Rattle.qn_service.specs.NextLooks.{look_of_rank}
 use Rattle.qn_service.specs.Serving.{clock_at}
 use Rattle.qn_service.proofs.Announcing.{SaidSince, announce_telling, said_since}
 use Rattle.qn_service.proofs.ByTheImage.{HeadersReadBack}
 use Rattle.qn_service.proofs.FreshHellos.{LookIs, look_is, sound_before}
-use Rattle.qn_service.proofs.HeardViews.{HasKnown, HasView, NoOtherView, known_besides, known_leads, known_places, look_view, told_anew, told_view}
+use Rattle.qn_service.proofs.HeardViews.{HasView, NoOtherView, look_view, told_anew, told_view, view_keeping}
 use Rattle.qn_service.proofs.JointClocks.{ClockLaws, ReturnOf}
+use Rattle.qn_service.proofs.Keeping.{HasKept, KeepsOn, kept_after, kept_on, kept_places}
 use Rattle.qn_service.proofs.RankSteps.{host_after}
-use Rattle.qn_service.proofs.SaidHellos.{up_leads}
 use Rattle.qn_service.proofs.Sound.{always_sound}
 use Rattle.qn_service.proofs.Telling.{IsSaying, says_late}
-use Rattle.qn_service.proofs.TurnSteps.{KnownAt, any_maker}
-use Rattle.qn_service.proofs.Waking.{IsLate, LastSince, before_by_clock, clock_grows, clocks_of, hello_by, known_after, last_since, late_still, live_of, look_by_call, step_of, ticks_before, ticks_passed, time_grows}
+use Rattle.qn_service.proofs.TurnSteps.{KnownAt}
+use Rattle.qn_service.proofs.Waking.{IsLate, LastSince, before_by_clock, clock_grows, clocks_of, hello_by, last_since, late_still, look_by_call, ticks_before, ticks_passed, time_grows}
 
 -- ## Numbers
 
@@ -87,19 +87,26 @@ module _ (s : Settings) (t : Timing) (worlds : EveryJointHasAWorld s t) (one : E
       own : WasSaidLately s image from to post (packet.Announce (rank_of from) view) older at
       own = a.own at view since until (ap packet_waiting is ∙ comes)
 
-  known_on : (base at : List Happening) → Before older base → Before base at → Before at all → IsLate s image (gaze + post + 4) older base
-      → KnownAt (known_places from present) (host_after s image to base).stand.spot → KnownAt (known_places from present) (host_after s image to at).stand.spot
-  known_on base at after Itself until late known = known
-  known_on base (newest ∷ at) after (Later same order) until late known =
-      up_leads s t image to newest at (known_besides s from present) (known_places from present) (known_places from present) (known_leads s to from present)
-      (step_of s t worlds one back laws image turn to newer older joined a.hearer newest at (before_then after order) until)
-      (λ chosen is tick told. late_comes at (before_then after order) (before_tail until)
-      (late_still (gaze + post + 4) (joint_after s image older).time (joint_after s image base).time (joint_after s image at).time
-      (time_grows s t worlds one back laws image turn to newer older joined a.hearer base at after order (before_tail until)) late) chosen is)
-      (λ look found. tt) (λ sent rest st is says. tt)
-      (live_of s t worlds one back laws image turn to newer older joined a.hearer (newest ∷ at) (Later newest (before_then after order)) until)
-      (any_maker (host_after s image to at).stand.spot)
-      (known_on base at after order (before_tail until) late known)
+  keeps_late : (base : List Happening) → Before older base → IsLate s image (gaze + post + 4) older base
+      → KeepsOn s t worlds one back laws image turn to newer older joined a.hearer (view_keeping from present) base
+  keeps_late base after late =
+      record {
+        hears = λ at order until chosen is. late_comes at (before_then after order) until
+            (late_still (gaze + post + 4) (joint_after s image older).time (joint_after s image base).time (joint_after s image at).time
+            (time_grows s t worlds one back laws image turn to newer older joined a.hearer base at after order until) late) chosen is;
+        looks = λ at newest look order until found. tt;
+      }
+
+  -- before a joint a look heard an announcement of the view
+  pub record WasHeard (new : List Happening) : Type 0 where
+    pub at : List Happening
+    pub happening : Happening
+    pub look : LookOf
+    pub after : Before older at
+    pub before : Before (happening ∷ at) new
+    pub is : look_of_rank s image to happening at ≡ Some look
+    pub hears : packet_to_hear s image to at ≡ Some (packet.Announce (rank_of from) present)
+    pub late : IsLate s image (gaze + post + 4) older at
 
   module _ (at : List Happening) (happening : Happening) (look : LookOf) (since : Before older at) (until : Before (happening ∷ at) all)
       (found : look_of_rank s image to happening at ≡ Some look) (late : IsLate s image (announce_ticks t turn post gaze) older at) where
@@ -225,18 +232,27 @@ module _ (s : Settings) (t : Timing) (worlds : EveryJointHasAWorld s t) (one : E
         (time_grows s t worlds one back laws image turn to newer older joined a.hearer hello.at (heard.happening ∷ heard.at) hello.after
         (Later heard.happening (before_then said.after (before_tail heard.after))) heard.back) late_hello
 
-    known : KnownAt (known_places from present) (host_after s image to at).stand.spot
+    pub was_heard : WasHeard at
+    was_heard =
+        record {
+          at = heard.at;
+          happening = heard.happening;
+          look = heard.look;
+          after = heard_since;
+          before = heard_before;
+          is = heard.is;
+          hears = heard.hears;
+          late = late_still (gaze + post + 4) (joint_after s image older).time (joint_after s image hello.at).time (joint_after s image heard.at).time
+              (time_grows s t worlds one back laws image turn to newer older joined a.hearer hello.at heard.at hello.after
+              (before_then said.after (before_tail heard.after)) (before_tail heard.back)) late_hello;
+        }
+
+    known : KnownAt (kept_places (view_keeping from present)) (host_after s image to at).stand.spot
     known =
-        known_on (heard.happening ∷ heard.at) at (Later heard.happening heard_since) heard_before until_at late_heard
-        (known_after s t worlds one back laws image turn to newer older joined a.hearer (known_besides s from present) (known_places from present) (known_leads s to from present)
-        heard.happening heard.at heard.look heard_since heard.back heard.is
-        (live_of s t worlds one back laws image turn to newer older joined a.hearer (heard.happening ∷ heard.at) (Later heard.happening heard_since) heard.back)
-        any_maker
-        (λ log entry. record {
-          maker = after_look heard.look.tick heard.look.maker;
-          is = refl;
-          knows = look_view from present heard.look.tick heard.look.maker heard_has;
-        }))
+        kept_on s t worlds one back laws image turn to newer older joined a.hearer (view_keeping from present) (heard.happening ∷ heard.at) at (Later heard.happening heard_since) heard_before until_at
+        (keeps_late (heard.happening ∷ heard.at) (Later heard.happening heard_since) late_heard)
+        (kept_after s t worlds one back laws image turn to newer older joined a.hearer (view_keeping from present) heard.happening heard.at heard.look heard_since heard.back heard.is
+        (look_view from present heard.look.tick heard.look.maker heard_has))
 
     pub view_known : of_rank look.maker.maker.announced from ≡ Some present
     view_known =
@@ -254,11 +270,11 @@ module _ (s : Settings) (t : Timing) (worlds : EveryJointHasAWorld s t) (one : E
         is : LookIs (host_after s image to at).stand.spot made.0.made look
         is = look_is to (host_after s image to at).stand.spot made.0.made look made.1
 
-        there : HasKnown from present is.chosen.1.maker
-        there = subst (KnownAt (known_places from present)) is.is known
+        there : HasKept (view_keeping from present) is.chosen.1.maker
+        there = subst (KnownAt (kept_places (view_keeping from present))) is.is known
 
         before_has : HasView from present is.before.maker
-        before_has = subst (λ (k : NamingMaker). HasView from present k.maker) (same_Some there.maker is.before (sym there.is ∙ is.had)) there.knows
+        before_has = subst (λ (k : NamingMaker). HasView from present k.maker) (same_Some there.maker is.before (sym there.is ∙ is.had)) there.holds
 
 pub announcements_come : (s : Settings) (t : Timing) → EveryJointHasAWorld s t → EachIsOneEvent s t → HeadersReadBack → ClockLaws → AnnouncementsCome s t
 announcements_come s t worlds one back laws image turn post gaze present from to newer older at happening look joined a since until found late =

@@ -21,8 +21,8 @@ use Rattle.qn_live.specs.declared.words.Own.{Own}
 use Rattle.qn_live.specs.Choosing.{heard, told}
 use Rattle.qn_live.specs.Greetings.{maker_begun, maker_where}
 use Rattle.qn_service.proofs.FreshHellos.{set_or_same, set_other}
+use Rattle.qn_service.proofs.Keeping.{Keeping}
 use Rattle.qn_service.proofs.Sound.{IsSound, look_heard}
-use Rattle.qn_service.proofs.TurnSteps.{Besides, Places, StepsLead}
 
 -- what comes of a rank is no announcement of another view
 abbrev pub NoOtherView : ℕ → View → Option Packet → Type 0
@@ -88,7 +88,7 @@ module _ (from : ℕ) (present : View) where
   pub look_view : (tick : ℕ) (m : NamingMaker) → HasView m.maker → HasView (after_look tick m).maker
   look_view tick m known = ap (λ items. of_rank items from) (look_heard tick m).announced ∙ known
 
-  due_view : (tick : ℕ) (m : NamingMaker) → HasView m.maker → HasView (after_naming_hello_due tick m).maker
+  pub due_view : (tick : ℕ) (m : NamingMaker) → HasView m.maker → HasView (after_naming_hello_due tick m).maker
   due_view tick m known = if_named (is_naming_hello_due tick m) _ m known known
 
   -- one that comes is known from then on
@@ -120,62 +120,13 @@ module _ (from : ℕ) (present : View) where
 
 -- ## From call to call
 
--- there is a view maker, which knows this of a rank
-pub record HasKnown (from : ℕ) (present : View) (had : Option NamingMaker) : Type 0 where
-  pub maker : NamingMaker
-  pub is : had ≡ Some maker
-  pub knows : HasView from present maker.maker
-
-abbrev pub known_places : ℕ → View → Places
-known_places from present =
+-- while each announcement of a rank that comes is of the view
+abbrev pub view_keeping : ℕ → View → Keeping
+view_keeping from present =
     record {
-      between = λ log had. HasKnown from present had;
-      acting = λ log had. HasKnown from present had;
-      saying = λ sents log had. HasKnown from present had;
-      over = λ log. Unit {0};
+      holds = λ m. HasView from present m.maker;
+      hears = NoOtherView from present;
+      looks = λ tick m. Unit {0};
+      due = due_view from present;
+      look = λ tick own p m hears finds known. look_view from present tick (told tick own p m) (told_view from present tick own p m hears known);
     }
-
-abbrev pub known_besides : Settings → ℕ → View → Besides
-known_besides s from present =
-    record {
-      clock = λ log tick p. NoOtherView from present p;
-      look = λ tick m. Unit {0};
-      sent = λ sent log. Unit {0};
-      log = λ log. is_live (phase s log) ≡ true;
-      maker = λ m. Unit {0};
-    }
-
-module _ (s : Settings) (me from : ℕ) (present : View) where
-  left_known : (tick : ℕ) (live : Bool) (begun : NamingMaker) (had : Option NamingMaker) → live ≡ true → HasKnown from present had
-      → HasKnown from present (option_map (after_naming_hello_due tick) (maker_where live begun had))
-  left_known tick false begun had live known = absurd (false≢true live)
-  left_known tick true begun None live known = absurd (none-some known.maker known.is)
-  left_known tick true begun (Some m) live known =
-      record {
-        maker = after_naming_hello_due tick m;
-        is = refl;
-        knows = due_view from present tick m (subst (λ (k : NamingMaker). HasView from present k.maker) (sym (same_Some m known.maker known.is)) known.knows);
-      }
-
-  pub known_leads : StepsLead s me (known_besides s from present) (known_places from present) (known_places from present)
-  known_leads =
-      record {
-        waits = λ log had known. known;
-        takes = λ log had tick p entry clock order makers known. known;
-        looks = λ log m tick own p clock looking order maker known. record {
-          maker = after_look tick (told tick own p m);
-          is = refl;
-          knows = look_view from present tick (told tick own p m)
-              (told_view from present tick own p m clock
-              (subst (λ (k : NamingMaker). HasView from present k.maker) (sym (same_Some m known.maker known.is)) known.knows));
-        };
-        kept = λ m tick own p known. tt;
-        acts = λ log had known. known;
-        greets = λ log had loop_ms own live makers known. left_known (now log) (is_live (phase s log)) (maker_begun s me loop_ms own) had live known;
-        polls = λ sents log had known. known;
-        says = λ sent rest log had says known. known;
-        said = λ log had known. known;
-        stops = λ log had known. tt;
-        parts = λ log had known. tt;
-        ends = λ log known. tt;
-      }

@@ -10,6 +10,7 @@ pub mod Early
 pub mod Everywhere
 pub mod Flags
 pub mod Followers
+pub mod FollowingLooks
 pub mod FoundCompanies
 pub mod FoundSets
 pub mod FreshHellos
@@ -21,11 +22,14 @@ mod HelloRows
 pub mod Holders
 pub mod Holding
 pub mod JointClocks
+pub mod Keeping
 pub mod KeptLoops
 mod KeptRows
 pub mod KeptViews
 pub mod Knowing
+pub mod LeaderSays
 pub mod Least
+pub mod Led
 pub mod LeftOut
 pub mod LogViews
 pub mod Made
@@ -37,6 +41,7 @@ pub mod OldHellos
 pub mod OneStop
 pub mod OneView
 pub mod Outside
+pub mod OwnPast
 pub mod Owner
 pub mod RankSteps
 pub mod Ranks

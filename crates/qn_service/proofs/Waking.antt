@@ -1,6 +1,6 @@
 -- One rank that stays awake from joint to joint: its steps, its clock, and its looks.
 use Rattle.std.proofs.Common.{◌≡◌, ◌⊎◌, inl, inr, ℕ, ◌+◌, ◌*◌, ◌/◌, ◌<◌, ◌≤◌, Bool, true, false, ◌==◌, List, ◌∷◌, ◌++◌, Option, Some, length, refl, sym, ◌∙◌, ap, subst, arith}
-use Rattle.std.proofs.lemmas.Bool.{cases_lt}
+use Rattle.std.proofs.lemmas.Bool.{cases_lt, ltb-false}
 use Rattle.qn_io.specs.Answered.{time_of}
 use Rattle.qn_model.specs.declared.configuration.Settings.{Settings}
 use Rattle.qn_model.specs.declared.times.Timing.{Timing}
@@ -10,6 +10,7 @@ use Rattle.qn_model.specs.Moments.{Before, Itself, Later}
 use Rattle.qn_model.specs.Phases.{is_live, phase}
 use Rattle.qn_member.specs.Naming.{NamingMaker}
 use Rattle.qn_member.specs.NamingViews.{after_look}
+use Rattle.qn_live.specs.Choosing.{told}
 use Rattle.qn_safety.specs.Earlier.{before_joined, before_tail, before_then, before_total}
 use Rattle.qn_joined.specs.Joints.{Happening, Host, IsJoined, joint_after}
 use Rattle.qn_joined.specs.Moves.{EachIsOneEvent}
@@ -21,15 +22,17 @@ use Rattle.qn_service.specs.NextLooks.{look_of_rank}
 use Rattle.qn_service.specs.Serving.{clock_at}
 use Rattle.qn_service.specs.Unheard.{log_after}
 use Rattle.qn_service.proofs.ByTheImage.{HeadersReadBack}
-use Rattle.qn_service.proofs.FreshHellos.{LookIs, look_is}
+use Rattle.qn_service.proofs.FreshHellos.{LookIs, look_is, sound_before}
 use Rattle.qn_service.proofs.JointClocks.{ClockLaws, ClocksRun, ReturnOf, UpStep, clocks_run, read_at, up_step}
 use Rattle.qn_service.proofs.NearHellos.{makers_loop, old_world}
 use Rattle.qn_service.proofs.NearLooks.{early_besides, early_in, early_leads, early_out, early_places}
+use Rattle.qn_service.proofs.OwnPast.{IsPast, always_own, own_places, past_kept, past_later, told_own}
 use Rattle.qn_service.proofs.RankSteps.{host_after, returned_spot}
 use Rattle.qn_service.proofs.SaidHellos.{hello_said, look_made, some_loop, up_leads}
+use Rattle.qn_service.proofs.KeptLoops.{loop_of, told_keeps}
 use Rattle.qn_service.proofs.LogViews.{always_shown}
 use Rattle.qn_service.proofs.Shown.{Chooses, ShownAt}
-use Rattle.qn_service.proofs.Sound.{told_beat}
+use Rattle.qn_service.proofs.Sound.{always_sound, told_beat}
 use Rattle.qn_service.proofs.Tracing.{Traced, traced}
 use Rattle.qn_service.proofs.TurnSteps.{Besides, KnownAt, MakerAt, Places, StepsLead, any_maker, log_with, spot_looked}
 
@@ -189,6 +192,48 @@ module _ (s : Settings) (t : Timing) (worlds : EveryJointHasAWorld s t) (one : E
 
       shown : Chooses s rank is.chosen
       shown = subst (ShownAt s rank) is.is (always_shown s image rank under joined.fits.few at)
+
+  -- of the configured nodes, with the loop's time of the image, and of no later tick
+  pub nodes_of_look : (newest : Happening) (at : List Happening) (look : LookOf) → Before older at → Before (newest ∷ at) all → look_of_rank s image rank newest at ≡ Some look
+      → look.maker.maker.nodes ≡ s.nodes
+  nodes_of_look newest at look since until found =
+      ap (λ (m : NamingMaker). m.maker.nodes) is.told
+      ∙ (told_beat (time_of made.0.made) is.own (packet_chosen is.chosen.0) is.before).nodes
+      ∙ (sound_before s (host_after s image rank at).stand.spot made.0.made look is (always_sound s image rank at)).nodes
+    where
+      made : (r : ReturnOf s t image rank newest at) × (look_at rank (host_after s image rank at).stand.spot r.made ≡ Some look)
+      made = look_by_call newest at look since until found
+
+      is : LookIs (host_after s image rank at).stand.spot made.0.made look
+      is = look_is rank (host_after s image rank at).stand.spot made.0.made look made.1
+
+  pub loop_of_look : (newest : Happening) (at : List Happening) (look : LookOf) → Before older at → Before (newest ∷ at) all → look_of_rank s image rank newest at ≡ Some look
+      → look.maker.maker.loop_ms ≡ t.loop_ms
+  loop_of_look newest at look since until found =
+      ap loop_of is.told ∙ told_keeps (time_of made.0.made) is.own (packet_chosen is.chosen.0) is.before
+      ∙ subst (MakerAt (λ m. loop_of m ≡ t.loop_ms)) is.is (makers_loop s t worlds back image newer older joined turn rank awake at since (before_tail until)) is.before is.had
+    where
+      made : (r : ReturnOf s t image rank newest at) × (look_at rank (host_after s image rank at).stand.spot r.made ≡ Some look)
+      made = look_by_call newest at look since until found
+
+      is : LookIs (host_after s image rank at).stand.spot made.0.made look
+      is = look_is rank (host_after s image rank at).stand.spot made.0.made look made.1
+
+  pub past_of_look : (newest : Happening) (at : List Happening) (look : LookOf) → Before older at → Before (newest ∷ at) all → look_of_rank s image rank newest at ≡ Some look
+      → IsPast look.tick look.maker
+  past_of_look newest at look since until found =
+      subst (λ (m : NamingMaker). IsPast look.tick m) (sym is.told)
+      (past_kept look.tick is.before (told (time_of made.0.made) is.own (packet_chosen is.chosen.0) is.before) (told_own (time_of made.0.made) is.own (packet_chosen is.chosen.0) is.before)
+      (past_later (now is.chosen.1.log) look.tick order is.before (subst (KnownAt own_places) is.is (always_own s image rank at) is.before is.had)))
+    where
+      made : (r : ReturnOf s t image rank newest at) × (look_at rank (host_after s image rank at).stand.spot r.made ≡ Some look)
+      made = look_by_call newest at look since until found
+
+      is : LookIs (host_after s image rank at).stand.spot made.0.made look
+      is = look_is rank (host_after s image rank at).stand.spot made.0.made look made.1
+
+      order : now is.chosen.1.log ≤ look.tick
+      order = let before = ltb-false (time_of made.0.made) (now is.chosen.1.log) is.order in let same = is.tick in omega (arith, before, same)
 
   -- what is known right after a look
   pub known_after : (b : Besides) (p : Places) → StepsLead s rank b p p → (newest : Happening) (at : List Happening) (look : LookOf) → Before older at → Before (newest ∷ at) all

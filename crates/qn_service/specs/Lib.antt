@@ -2,6 +2,7 @@ pub mod Agreeing
 pub mod Announced
 pub mod Between
 pub mod Company
+pub mod Following
 pub mod Heard
 pub mod Hellos
 pub mod Holders

@@ -3,6 +3,7 @@ ghost use Rattle.qn_model.specs.declared.configuration.Settings.{Settings};
 ghost use Rattle.qn_model.specs.declared.times.Timing.{Timing};
 ghost use Rattle.qn_service.specs.Agreeing.{CompaniesAreFound};
 ghost use Rattle.qn_service.specs.Announced.{AnnouncementsCome};
+ghost use Rattle.qn_service.specs.Following.{FollowersTakeIt, LooksComeToAgree};
 
 /// Law: where each look of some nodes sees just them and finds the same leader, each look of that leader finds all of them in company, once
 /// they have looked and what they say since has come.
@@ -20,6 +21,28 @@ pub fn law_companies_are_found()
 /// said and the announcement after that has come.
 pub fn law_announcements_come()
     ensures { (s : Settings) (t : Timing) → AnnouncementsCome s t }
+{
+    qn_safety::law_any_runs_are_timed();
+    qn_safety::law_clocks();
+    qn_sector::law_read_back();
+    qn_joined::law_worlds();
+    qn_joined::law_each_is_one_event();
+}
+
+/// Law: each other member takes the view of a leader that keeps it, once that was announced, the leader led for four loops, and it has looked since.
+pub fn law_followers_come_to_it()
+    ensures { (s : Settings) (t : Timing) → FollowersTakeIt s t }
+{
+    qn_safety::law_any_runs_are_timed();
+    qn_safety::law_clocks();
+    qn_sector::law_read_back();
+    qn_joined::law_worlds();
+    qn_joined::law_each_is_one_event();
+}
+
+/// Law: so the looks of a majority come to agree on the view of its leader, and go on to do so.
+pub fn law_looks_come_to_agree()
+    ensures { (s : Settings) (t : Timing) → LooksComeToAgree s t }
 {
     qn_safety::law_any_runs_are_timed();
     qn_safety::law_clocks();

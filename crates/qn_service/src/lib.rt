@@ -35,7 +35,10 @@ mod looks;
 mod owners;
 mod serving;
 
-pub use agreeing::{law_announcements_come, law_companies_are_found};
+pub use agreeing::{
+    law_announcements_come, law_companies_are_found, law_followers_come_to_it,
+    law_looks_come_to_agree,
+};
 pub use hellos::{
     law_hellos_are_met, law_hellos_are_said, law_looks_find_sets, law_looks_hear, law_looks_see,
 };
