@@ -7,7 +7,8 @@ use Rattle.qn_model.specs.declared.times.Timing.{Timing}
 use Rattle.qn_model.specs.Moments.{Before}
 use Rattle.qn_member.specs.Maker.{has_configured}
 use Rattle.qn_member.specs.NamingViews.{after_look, may_not_start}
-use Rattle.qn_joined.specs.Joints.{Happening, IsJoined, joint_after}
+use Rattle.qn_progress.specs.Pace.{Pace, outside}
+use Rattle.qn_joined.specs.Joints.{Happening, IsJoined, joint_after, runs_at}
 use Rattle.qn_service.specs.Agreeing.{EachLookIs}
 use Rattle.qn_service.specs.Announced.{AnnouncementsAreOwn, announce_ticks}
 use Rattle.qn_service.specs.Hellos.{LooksOften, StaysAwake, WordsCome}
@@ -15,6 +16,8 @@ use Rattle.qn_service.specs.KeptViews.{AgreeOnView, KeepsOneView}
 use Rattle.qn_service.specs.Leading.{leader_then, names_then}
 use Rattle.qn_service.specs.Looks.{LookOf}
 use Rattle.qn_service.specs.NextLooks.{look_of_rank}
+use Rattle.qn_service.specs.Serving.{MayServe, serving_ticks}
+use Rattle.qn_service.specs.Unheard.{log_after}
 
 -- a look of a node that may start finds this leader
 pub record FindsLed (leader : ℕ) (look : LookOf) : Type 0 where
@@ -70,3 +73,17 @@ LooksComeToAgree s t =
     → Before at (newer ++ older)
     → 100 * (follow_ticks t turn post gaze + gaze + 2) + 99 * (joint_after s image older).time ≤ 99 * (joint_after s image at).time
     → AgreeOnView s image leader present at (newer ++ older)
+
+-- and once the time of a take-over has passed since one of them a member runs the resource, with the premises of the chosen one from that joint on
+abbrev pub NodesServe : Settings → Timing → Type 0
+NodesServe s t =
+    (image : ℕ → List ℕ) (pace : Pace) (turn post gaze leader rank : ℕ) (present : View) (newer older at : List Happening)
+    → IsJoined s t image (newer ++ older)
+    → KeepsLeading s image turn post gaze leader present older (newer ++ older)
+    → Before older at
+    → Before at (newer ++ older)
+    → 100 * (follow_ticks t turn post gaze + gaze + 2) + 99 * (joint_after s image older).time ≤ 99 * (joint_after s image at).time
+    → MayServe s t image pace post rank present at (newer ++ older)
+    → 100 * serving_ticks t pace post (outside s (log_after s image at rank)) + 99 * (joint_after s image at).time
+    ≤ 99 * (joint_after s image (newer ++ older)).time
+    → (owner : ℕ) × (is_member present.members owner ≡ true) × (runs_at s image (newer ++ older) owner ≡ true)

@@ -3,7 +3,9 @@ ghost use Rattle.qn_model.specs.declared.configuration.Settings.{Settings};
 ghost use Rattle.qn_model.specs.declared.times.Timing.{Timing};
 ghost use Rattle.qn_service.specs.Agreeing.{CompaniesAreFound};
 ghost use Rattle.qn_service.specs.Announced.{AnnouncementsCome};
-ghost use Rattle.qn_service.specs.Following.{FollowersTakeIt, LooksComeToAgree};
+ghost use Rattle.qn_service.specs.Following.{FollowersTakeIt, LooksComeToAgree, NodesServe};
+
+use crate::serving::law_looks_serve;
 
 /// Law: where each look of some nodes sees just them and finds the same leader, each look of that leader finds all of them in company, once
 /// they have looked and what they say since has come.
@@ -49,4 +51,13 @@ pub fn law_looks_come_to_agree()
     qn_sector::law_read_back();
     qn_joined::law_worlds();
     qn_joined::law_each_is_one_event();
+}
+
+/// Law: a majority whose leader keeps its view has an owner, one of them, once the others have that view and the time of a take-over has passed, with
+/// the premises of `law_members_serve` for the chosen one from then on.
+pub fn law_nodes_serve()
+    ensures { (s : Settings) (t : Timing) → NodesServe s t }
+{
+    law_looks_come_to_agree();
+    law_looks_serve();
 }
