@@ -35,16 +35,18 @@ use Rattle.qn_service.proofs.AnnouncedViews.{WasHeard, view_known, was_heard}
 use Rattle.qn_service.proofs.ByTheImage.{HeadersReadBack}
 use Rattle.qn_service.proofs.Followers.{takes_view}
 use Rattle.qn_service.proofs.JointClocks.{ClockLaws}
-use Rattle.qn_service.proofs.Keeping.{KeepsOn, ToldAt, kept_after, kept_on, kept_places, told_at}
+use Rattle.qn_service.proofs.Keeping.{ToldAt, kept_after, kept_on, kept_places, told_at}
+use Rattle.qn_service.proofs.LastLooks.{LastLook, last_from}
 use Rattle.qn_service.proofs.LeaderSays.{look_announces, look_left}
-use Rattle.qn_service.proofs.Led.{FindsIt, HasCome, IsLedSince, begins, come_keeping, comes_now, led_keeping, led_later, look_come, look_first_led, look_led, proven, told_come, told_led}
+use Rattle.qn_service.proofs.Led.{FindsIt, HasCome, IsLedSince, begins, come_keeping, comes_now, led_keeping, look_come, look_led, proven, told_come, told_led}
+use Rattle.qn_service.proofs.LedLooks.{LedLong, led_late, led_long}
 use Rattle.qn_service.proofs.LogViews.{looks_know_names}
 use Rattle.qn_service.proofs.Made.{filtered}
 use Rattle.qn_service.proofs.OneView.{left_at, open_after}
 use Rattle.qn_service.proofs.RankSteps.{host_after}
 use Rattle.qn_service.proofs.Sound.{told_beat}
 use Rattle.qn_service.proofs.TurnSteps.{KnownAt}
-use Rattle.qn_service.proofs.Waking.{IsLate, LastSince, clock_grows, clocks_of, last_since, late_still, live_of, loop_of_look, nodes_of_look, own_of_look, past_of_look, tick_of_look, ticks_before, ticks_passed, time_grows}
+use Rattle.qn_service.proofs.Waking.{IsLate, clocks_of, late_still, live_of, nodes_of_look, own_of_look, ticks_before, ticks_passed, time_grows}
 
 -- ## Numbers
 
@@ -122,37 +124,6 @@ module _ (s : Settings) (t : Timing) (worlds : EveryJointHasAWorld s t) (one : E
     finds_it at happening look since until found =
         record { knows = knows_names rank under happening at look found; leads = (f.finds at happening look since until found).leads }
 
-    keeps_led : (limit : ℕ) (base : List Happening) → Before older base → KeepsOn s t worlds one back laws image turn rank newer older joined f.awake (led_keeping leader limit) base
-    keeps_led limit base after =
-        record { hears = λ at order until chosen is. tt; looks = λ at happening look order until found. finds_it at happening look (before_then after order) until found }
-
-    -- once it has looked the leader led it
-    led_late : (at : List Happening) → Before older at → Before at all → IsLate s image (gaze + 2) older at
-        → KnownAt (kept_places (led_keeping leader (clock_at s image at rank))) (host_after s image rank at).stand.spot
-    led_late at since until late =
-        kept_on s t worlds one back laws image turn rank newer older joined f.awake (led_keeping leader (clock_at s image at rank)) (looked.happening ∷ looked.at) at
-        (Later looked.happening looked.after) looked.back until (keeps_led (clock_at s image at rank) (looked.happening ∷ looked.at) (Later looked.happening looked.after))
-        (kept_after s t worlds one back laws image turn rank newer older joined f.awake (led_keeping leader (clock_at s image at rank)) looked.happening looked.at looked.look looked.after
-        (before_then looked.back until) looked.is
-        (led_later leader looked.look.tick (clock_at s image at rank) (after_look looked.look.tick looked.look.maker) early
-        (look_first_led looked.look.tick leader looked.look.maker finds.knows finds.leads
-        (past_of_look s t worlds one back laws image turn rank newer older joined f.awake looked.happening looked.at looked.look looked.after (before_then looked.back until) looked.is))))
-      where
-        looked : HasLooked s image gaze rank older at
-        looked =
-            f.looks at since until
-            (ticks_passed gaze (host_after s image rank older).clock (host_after s image rank at).clock (joint_after s image older).time (joint_after s image at).time
-            (clocks_of s t worlds one back laws image turn rank newer older joined f.awake older at Itself since until).slow late)
-
-        finds : FindsIt leader looked.look.tick looked.look.maker
-        finds = finds_it looked.at looked.happening looked.look looked.after (before_then looked.back until) looked.is
-
-        early : looked.look.tick ≤ clock_at s image at rank
-        early =
-            let same = tick_of_look s t worlds one back laws image turn rank newer older joined f.awake looked.happening looked.at looked.look looked.after (before_then looked.back until) looked.is in
-            let grows = clock_grows s t worlds one back laws image turn rank newer older joined f.awake looked.at at looked.after (before_tail looked.back) until in
-            omega (arith, same, grows)
-
     module _ (at : List Happening) (happening : Happening) (look : LookOf) (since : Before older at) (until : Before (happening ∷ at) all)
         (found : look_of_rank s image rank happening at ≡ Some look) (late : IsLate s image (follow_ticks t turn post gaze) older at) where
       until_at : Before at all
@@ -171,35 +142,10 @@ module _ (s : Settings) (t : Timing) (worlds : EveryJointHasAWorld s t) (one : E
           loops_order : (gaze turn loop ticks : ℕ) → 4 * loop + turn + gaze + 4 ≤ ticks → (gaze + 2) + (4 * loop + turn) + 2 ≤ ticks
           loops_order gaze turn loop ticks order = omega (arith, order)
 
-      -- four loops before
-      first : LastSince s t worlds one back laws image turn rank newer older joined f.awake (4 * t.loop_ms) at
-      first =
-          last_since s t worlds one back laws image turn rank newer older joined f.awake (4 * t.loop_ms) at since until_at
-          (ticks_passed (4 * t.loop_ms) (host_after s image rank older).clock (host_after s image rank at).clock (joint_after s image older).time (joint_after s image at).time
-          (clocks_of s t worlds one back laws image turn rank newer older joined f.awake older at Itself since until_at).slow
-          (enough_late (4 * t.loop_ms + 2) ((gaze + 2) + (4 * t.loop_ms + turn) + 2) (joint_after s image older).time (joint_after s image at).time (omega arith) late_loops))
-
-      late_first : IsLate s image (gaze + 2) older first.at
-      late_first =
-          ticks_before (gaze + 2) (4 * t.loop_ms + turn) (host_after s image rank first.at).clock (host_after s image rank at).clock (joint_after s image older).time (joint_after s image first.at).time
-          (joint_after s image at).time (clocks_of s t worlds one back laws image turn rank newer older joined f.awake first.at at first.since first.until until_at).slow
-          (let close = first.close in omega (arith, close)) late_loops
-
-      tick_is : look.tick ≡ clock_at s image at rank
-      tick_is = tick_of_look s t worlds one back laws image turn rank newer older joined f.awake happening at look since until found
-
-      loop_is : look.maker.maker.loop_ms ≡ t.loop_ms
-      loop_is = loop_of_look s t worlds one back laws image turn rank newer older joined f.awake happening at look since until found
-
-      -- since then the leader led it
-      led : IsLedSince leader (clock_at s image first.at rank) look.maker
-      led = subst (IsLedSince leader (clock_at s image first.at rank)) (sym it.is) (told_led leader (clock_at s image first.at rank) look.tick it.own it.packet it.before it.holds)
-        where
-          it : ToldAt s t worlds one back laws image turn rank newer older joined f.awake (led_keeping leader (clock_at s image first.at rank)) at look
-          it =
-              told_at s t worlds one back laws image turn rank newer older joined f.awake (led_keeping leader (clock_at s image first.at rank)) happening at look since until found
-              (kept_on s t worlds one back laws image turn rank newer older joined f.awake (led_keeping leader (clock_at s image first.at rank)) first.at at first.since first.until until_at
-              (keeps_led (clock_at s image first.at rank) first.at first.since) (led_late first.at first.since (before_then first.until until_at) late_first))
+      -- for so long the leader led it
+      led : LedLong s t image rank leader at look
+      led =
+          led_long s t worlds one back laws image turn gaze rank leader newer older joined f.awake f.looks finds_it at happening look since until found late_loops
 
       -- and it heard an announcement since
       came : WasHeard s t worlds one back laws image turn post gaze present leader rank newer older joined announcing at
@@ -220,7 +166,7 @@ module _ (s : Settings) (t : Timing) (worlds : EveryJointHasAWorld s t) (one : E
           it =
               told_at s t worlds one back laws image turn rank newer older joined f.awake (led_keeping leader (clock_at s image came.at rank)) came.happening came.at came.look came.after came_all
               came.is
-              (led_late came.at came.after (before_tail came_all)
+              (led_late s t worlds one back laws image turn gaze rank leader newer older joined f.awake f.looks finds_it came.at came.after (before_tail came_all)
               (enough_late (gaze + 2) (gaze + post + 4) (joint_after s image older).time (joint_after s image came.at).time (omega arith) came.late))
 
           nodes : it.before.maker.nodes ≡ s.nodes
@@ -277,10 +223,8 @@ module _ (s : Settings) (t : Timing) (worlds : EveryJointHasAWorld s t) (one : E
             announced = announced;
             has_both = and_from (is_member present.members look.maker.maker.me) (is_member present.members leader) (ap (is_member present.members) own_is ∙ member) k.member;
             newer = or_right (is_newer_of (looked_by_name look.tick look.maker) leader present) (is_proven look.tick (looked_by_name look.tick look.maker))
-                (proven look.tick leader look.maker finds.knows finds.leads (clock_at s image first.at rank) led come
-                (let early = first.early in let same = tick_is in let loop = loop_is in omega (arith, early, same, loop)));
-            begins = begins look.tick leader look.maker finds.knows finds.leads (clock_at s image first.at rank) led
-                (let early = first.early in let same = tick_is in let loop = loop_is in omega (arith, early, same, loop));
+                (proven look.tick leader look.maker finds.knows finds.leads led.limit led.led come (let long = led.long in omega (arith, long)));
+            begins = begins look.tick leader look.maker finds.knows finds.leads led.limit led.led led.long;
           }
 
       pub takes_it : (after_look look.tick look.maker).maker.view ≡ Some present
@@ -292,65 +236,6 @@ module _ (s : Settings) (t : Timing) (worlds : EveryJointHasAWorld s t) (one : E
 pub followers_take_it : (s : Settings) (t : Timing) → EveryJointHasAWorld s t → EachIsOneEvent s t → HeadersReadBack → ClockLaws → FollowersTakeIt s t
 followers_take_it s t worlds one back laws image turn post gaze leader present rank newer older at happening look joined k member other since until found late =
     takes_it s t worlds one back laws image turn post gaze leader present newer older joined k rank member other at happening look since until found late
-
--- ## The last look of a rank
-
--- the last look at a joint, where there was one since another
-record LastLook (s : Settings) (image : ℕ → List ℕ) (rank : ℕ) (base new : List Happening) : Type 0 where
-  at : List Happening
-  happening : Happening
-  look : LookOf
-  after : Before base at
-  back : Before (happening ∷ at) new
-  is : look_of_rank s image rank happening at ≡ Some look
-  last : last_look s image rank new ≡ Some look
-
-module _ (s : Settings) (image : ℕ → List ℕ) (rank : ℕ) where
-  last_so : (newest : Happening) (earlier : List Happening) → is_live (phase s (log_after s image (newest ∷ earlier) rank)) ≡ true
-      → last_look s image rank (newest ∷ earlier) ≡ option_or (look_of_rank s image rank newest earlier) (last_look s image rank earlier)
-  unfolding last_look
-  last_so newest earlier live = ap (λ b. if b then option_or (look_of_rank s image rank newest earlier) (last_look s image rank earlier) else None) live
-
-  last_from : (base at : List Happening) (happening : Happening) (look : LookOf) (new : List Happening) → Before base at → look_of_rank s image rank happening at ≡ Some look
-      → Before (happening ∷ at) new → ((h : List Happening) → Before (happening ∷ at) h → Before h new → is_live (phase s (log_after s image h rank)) ≡ true)
-      → LastLook s image rank base new
-  last_from base at happening look new since found Itself live =
-      record {
-        at = at;
-        happening = happening;
-        look = look;
-        after = since;
-        back = Itself;
-        is = found;
-        last = last_so happening at (live (happening ∷ at) Itself Itself) ∙ ap (λ o. option_or o (last_look s image rank at)) found;
-      }
-  last_from base at happening look (newest ∷ earlier) since found (Later same order) live =
-      by_look (look_of_rank s image rank newest earlier) refl (last_from base at happening look earlier since found order (λ h after before. live h after (Later newest before)))
-    where
-      lives : is_live (phase s (log_after s image (newest ∷ earlier) rank)) ≡ true
-      lives = live (newest ∷ earlier) (Later newest order) Itself
-
-      by_look : (o : Option LookOf) → look_of_rank s image rank newest earlier ≡ o → LastLook s image rank base earlier → LastLook s image rank base (newest ∷ earlier)
-      by_look None none before =
-          record {
-            at = before.at;
-            happening = before.happening;
-            look = before.look;
-            after = before.after;
-            back = Later newest before.back;
-            is = before.is;
-            last = last_so newest earlier lives ∙ ap (λ o. option_or o (last_look s image rank earlier)) none ∙ before.last;
-          }
-      by_look (Some l) some before =
-          record {
-            at = earlier;
-            happening = newest;
-            look = l;
-            after = before_then since (before_tail order);
-            back = Itself;
-            is = some;
-            last = last_so newest earlier lives ∙ ap (λ o. option_or o (last_look s image rank earlier)) some;
-          }
 
 -- ## The looks agree
 
@@ -456,7 +341,7 @@ nodes_serve s t agree serve image pace turn post gaze leader rank present newer 
         → MayServe s t image pace post rank present at all
         → 100 * serving_ticks t pace post (outside s (log_after s image at rank)) + 99 * (joint_after s image at).time ≤ 99 * (joint_after s image all).time
         → (owner : ℕ) × (is_member present.members owner ≡ true) × (runs_at s image all owner ≡ true)
-    by_more {all = all} (more, same) is agrees serves enough =
+    by_more (more, same) is agrees serves enough =
         subst (λ (h : List Happening). (owner : ℕ) × (is_member present.members owner ≡ true) × (runs_at s image h owner ≡ true)) same
         (serve image pace post rank leader present more at
         (subst (IsJoined s t image) (sym same) is)

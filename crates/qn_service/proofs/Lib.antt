@@ -27,9 +27,11 @@ pub mod KeptLoops
 mod KeptRows
 pub mod KeptViews
 pub mod Knowing
+pub mod LastLooks
 pub mod LeaderSays
 pub mod Least
 pub mod Led
+pub mod LedLooks
 pub mod LeftOut
 pub mod LogViews
 pub mod Made
