@@ -54,6 +54,7 @@ pub mod SaidNames
 pub mod SeenLooks
 pub mod ServedBy
 mod ServingRows
+pub mod SettledLeaders
 pub mod Shown
 pub mod Sound
 pub mod SpotLogs

@@ -159,7 +159,7 @@ keeps_it leader present look keeps had = by_way keeps.keeps
 
 module _ (s : Settings) (image : ℕ → List ℕ) (rank leader : ℕ) (present : View) where
   -- what the next happening leaves
-  next_left : (newest : Happening) (earlier : List Happening) → is_live (phase s (log_after s image (newest ∷ earlier) rank)) ≡ true
+  pub next_left : (newest : Happening) (earlier : List Happening) → is_live (phase s (log_after s image (newest ∷ earlier) rank)) ≡ true
       → ((look : LookOf) → look_of_rank s image rank newest earlier ≡ Some look → KeepsView leader present look)
       → WasLeft s image rank present earlier → WasLeft s image rank present (newest ∷ earlier)
   unfolding last_look

@@ -1,13 +1,16 @@
 -- When the looks of some nodes agree on a leader, whom that finds then, and what the others have of it. This project's profile.
-use Rattle.std.specs.Prelude.{◌≡◌, ◌+◌, ◌*◌, ◌<◌, ◌≤◌, ℕ, true, List, ◌∷◌, ◌++◌, length, Some}
+use Rattle.std.specs.Prelude.{◌≡◌, ◌+◌, ◌*◌, ◌<◌, ◌≤◌, ℕ, true, false, max, List, ◌∷◌, ◌++◌, length, Some, IfSome}
 use Rattle.qn_base.specs.declared.ids.Mask.{Mask}
+use Rattle.qn_base.specs.declared.ids.View.{View}
 use Rattle.qn_base.specs.Members.{is_member}
 use Rattle.qn_model.specs.declared.configuration.Settings.{Settings}
 use Rattle.qn_model.specs.declared.times.Timing.{Timing}
 use Rattle.qn_model.specs.Moments.{Before}
-use Rattle.qn_member.specs.Maker.{visible_nodes}
+use Rattle.qn_member.specs.Maker.{disputed_nodes, is_present, visible_nodes}
+use Rattle.qn_member.specs.NamingViews.{is_named_anew, looked_by_name, may_not_start, view_found, view_of}
 use Rattle.qn_joined.specs.Joints.{Happening, IsJoined, joint_after}
 use Rattle.qn_service.specs.Hellos.{HellosAreOwn, IsNear, LooksOften, StaysAwake, hello_ticks}
+use Rattle.qn_service.specs.KeptViews.{KeepsOneView}
 use Rattle.qn_service.specs.Leading.{company_then, leader_then, names_then}
 use Rattle.qn_service.specs.Looks.{LookOf}
 use Rattle.qn_service.specs.NextLooks.{look_of_rank}
@@ -54,3 +57,42 @@ CompaniesAreFound s t =
     → look_of_rank s image leader happening at ≡ Some look
     → 100 * found_ticks t turn post gaze + 99 * (joint_after s image older).time ≤ 99 * (joint_after s image at).time
     → company_then look.tick look.maker ≡ set
+
+-- ## The view of the leader
+
+-- A look of a leader that finds these in company may start, has nobody in dispute, gives no view but of them, and names nobody else once that is its view.
+pub record MaySettle (set : Mask) (look : LookOf) : Type 0 where
+  pub may : may_not_start look.maker ≡ false
+  pub agreed : (disputed_nodes look.tick (looked_by_name look.tick look.maker).maker set).0 ≡ 0
+  pub gives : IfSome (view_found look.tick look.maker) (λ view. view.members ≡ set)
+  pub named : is_present look.maker.maker set ≡ true
+      → is_named_anew look.tick (looked_by_name look.tick look.maker) (view_of (looked_by_name look.tick look.maker) set) ≡ false
+
+-- the leader is so from an old joint to a new one: it is a member that is up and keeps its pace, and looks often
+pub record SettlesIn (s : Settings) (image : ℕ → List ℕ) (turn gaze : ℕ) (set : Mask) (leader : ℕ) (old new : List Happening) : Type 0 where
+  pub configured : leader < length s.nodes
+  pub member : is_member set leader ≡ true
+  pub awake : StaysAwake s image turn leader old new
+  pub looks : LooksOften s image gaze leader old new
+  pub settles : EachLookIs s image leader (λ look. company_then look.tick look.maker ≡ set → MaySettle set look) old new
+
+-- by then it found them in company for a loop, and leads for four
+abbrev pub settle_ticks : Timing → ℕ → ℕ → ℕ → ℕ
+settle_ticks t turn post gaze = max (found_ticks t turn post gaze + t.loop_ms + gaze + gaze + turn + 4) (4 * t.loop_ms + turn + gaze + gaze + 6)
+
+-- then it keeps a view of these members
+pub record HasSettled (s : Settings) (image : ℕ → List ℕ) (set : Mask) (leader : ℕ) (old new : List Happening) : Type 0 where
+  pub present : View
+  pub is : present.members ≡ set
+  pub keeps : KeepsOneView s image leader leader present old new
+
+abbrev pub LeadersSettle : Settings → Timing → Type 0
+LeadersSettle s t =
+    (image : ℕ → List ℕ) (turn post gaze : ℕ) (set : Mask) (leader : ℕ) (newer older at : List Happening)
+    → IsJoined s t image (newer ++ older)
+    → LooksAgree s t image turn post gaze set leader older (newer ++ older)
+    → SettlesIn s image turn gaze set leader older (newer ++ older)
+    → Before older at
+    → Before at (newer ++ older)
+    → 100 * settle_ticks t turn post gaze + 99 * (joint_after s image older).time ≤ 99 * (joint_after s image at).time
+    → HasSettled s image set leader at (newer ++ older)

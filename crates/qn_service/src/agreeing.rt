@@ -1,7 +1,7 @@
 //! The laws of running nodes whose looks agree on a leader.
 ghost use Rattle.qn_model.specs.declared.configuration.Settings.{Settings};
 ghost use Rattle.qn_model.specs.declared.times.Timing.{Timing};
-ghost use Rattle.qn_service.specs.Agreeing.{CompaniesAreFound};
+ghost use Rattle.qn_service.specs.Agreeing.{CompaniesAreFound, LeadersSettle};
 ghost use Rattle.qn_service.specs.Announced.{AnnouncementsCome};
 ghost use Rattle.qn_service.specs.Following.{FollowersTakeIt, LooksComeToAgree, NodesServe};
 
@@ -60,4 +60,16 @@ pub fn law_nodes_serve()
 {
     law_looks_come_to_agree();
     law_looks_serve();
+}
+
+/// Law: so that leader comes to keep a view of them, where each look of it that finds them may start, has nobody in dispute, gives no view but of
+/// them, and names nobody else once that is its view.
+pub fn law_leaders_settle()
+    ensures { (s : Settings) (t : Timing) → LeadersSettle s t }
+{
+    qn_safety::law_any_runs_are_timed();
+    qn_safety::law_clocks();
+    qn_sector::law_read_back();
+    qn_joined::law_worlds();
+    qn_joined::law_each_is_one_event();
 }
