@@ -1,5 +1,5 @@
 -- The others take the view of a leader that keeps it.
-use Rattle.std.proofs.Common.{◌≡◌, ◌⊎◌, inl, inr, ℕ, ◌+◌, ◌*◌, ◌/◌, ◌<◌, ◌≤◌, Bool, true, false, ◌&&◌, ◌||◌, ◌==◌, List, [], ◌∷◌, ◌++◌, Option, None, Some, length, max, if◌then◌else◌, refl, sym, ◌∙◌, ap, subst, arith}
+use Rattle.std.proofs.Common.{◌≡◌, ◌⊎◌, inl, inr, ℕ, ◌+◌, ◌*◌, ◌/◌, ◌<◌, ◌≤◌, Bool, true, false, ◌&&◌, ◌||◌, ◌==◌, List, ◌∷◌, ◌++◌, Option, None, Some, length, max, if◌then◌else◌, refl, sym, ◌∙◌, ap, subst, arith}
 use Rattle.std.specs.Option.{option_or}
 use Rattle.std.proofs.Math.Nat.{le-max_left, le-max_right}
 use Rattle.std.proofs.lemmas.Bool.{and_from, cases_eq, eq-eqb, eqb-true, lt-ltb, or_right}
@@ -16,20 +16,19 @@ use Rattle.qn_member.specs.Maker.{has_configured, is_configured, of_rank}
 use Rattle.qn_member.specs.Naming.{NamingMaker, is_own, knows_bit}
 use Rattle.qn_member.specs.NamingViews.{after_look, is_newer_of, is_proven, looked_by_name, view_announced}
 use Rattle.qn_live.specs.Choosing.{told}
-use Rattle.qn_progress.specs.Pace.{Pace, outside}
 use Rattle.qn_safety.specs.Earlier.{before_joined, before_tail, before_then}
-use Rattle.qn_joined.specs.Joints.{Happening, IsJoined, joint_after, runs_at}
+use Rattle.qn_joined.specs.Joints.{Happening, IsJoined, joint_after}
 use Rattle.qn_joined.specs.Moves.{EachIsOneEvent}
 use Rattle.qn_joined.specs.WorldOf.{EveryJointHasAWorld}
 use Rattle.qn_service.specs.Announced.{IsAnnouncing, announce_ticks}
-use Rattle.qn_service.specs.Following.{FollowersTakeIt, FollowsLeader, KeepsLeading, LooksComeToAgree, NodesServe, follow_ticks}
+use Rattle.qn_service.specs.Following.{FollowersTakeIt, FollowsLeader, KeepsLeading, LooksComeToAgree, follow_ticks}
 use Rattle.qn_service.specs.Company.{IsLedByName}
 use Rattle.qn_service.specs.Hellos.{HasLooked}
-use Rattle.qn_service.specs.KeptViews.{AgreeOnView, FollowsView, IsUpAt, KeepsOneView, LeadsMembers, LooksServe, WasLeft}
+use Rattle.qn_service.specs.KeptViews.{AgreeOnView, FollowsView, IsUpAt, KeepsOneView, LeadsMembers, WasLeft}
 use Rattle.qn_service.specs.Leading.{leader_then}
 use Rattle.qn_service.specs.Looks.{LookOf, look_of}
 use Rattle.qn_service.specs.NextLooks.{last_look, look_of_rank}
-use Rattle.qn_service.specs.Serving.{MayServe, clock_at, serving_ticks}
+use Rattle.qn_service.specs.Serving.{clock_at}
 use Rattle.qn_service.specs.Unheard.{log_after}
 use Rattle.qn_service.proofs.AnnouncedViews.{WasHeard, view_known, was_heard}
 use Rattle.qn_service.proofs.ByTheImage.{HeadersReadBack}
@@ -325,27 +324,3 @@ module _ (s : Settings) (t : Timing) (worlds : EveryJointHasAWorld s t) (one : E
 pub looks_come_to_agree : (s : Settings) (t : Timing) → EveryJointHasAWorld s t → EachIsOneEvent s t → HeadersReadBack → ClockLaws → LooksComeToAgree s t
 looks_come_to_agree s t worlds one back laws image turn post gaze leader present newer older at joined k since until late =
     agree_then s t worlds one back laws image turn post gaze leader present newer older joined k at since until late
-
--- ## An owner
-
--- what happened up to a later joint is what happened up to an earlier one, and more
-more_since : {old new : List Happening} → Before old new → (more : List Happening) × (more ++ old ≡ new)
-more_since Itself = ([], refl)
-more_since (Later newest before) = let rest = more_since before in (newest ∷ rest.0, ap (λ (h : List Happening). newest ∷ h) rest.1)
-
-pub nodes_serve : (s : Settings) (t : Timing) → LooksComeToAgree s t → LooksServe s t → NodesServe s t
-nodes_serve s t agree serve image pace turn post gaze leader rank present newer older at joined k since until late may takes =
-    by_more (more_since until) joined (agree image turn post gaze leader present newer older at joined k since until late) may takes
-  where
-    by_more : {all : List Happening} → (more : List Happening) × (more ++ at ≡ all) → IsJoined s t image all → AgreeOnView s image leader present at all
-        → MayServe s t image pace post rank present at all
-        → 100 * serving_ticks t pace post (outside s (log_after s image at rank)) + 99 * (joint_after s image at).time ≤ 99 * (joint_after s image all).time
-        → (owner : ℕ) × (is_member present.members owner ≡ true) × (runs_at s image all owner ≡ true)
-    by_more (more, same) is agrees serves enough =
-        subst (λ (h : List Happening). (owner : ℕ) × (is_member present.members owner ≡ true) × (runs_at s image h owner ≡ true)) same
-        (serve image pace post rank leader present more at
-        (subst (IsJoined s t image) (sym same) is)
-        (subst (AgreeOnView s image leader present at) (sym same) agrees)
-        (subst (MayServe s t image pace post rank present at) (sym same) serves)
-        (subst (λ (h : List Happening). 100 * serving_ticks t pace post (outside s (log_after s image at rank)) + 99 * (joint_after s image at).time ≤ 99 * (joint_after s image h).time)
-        (sym same) enough))

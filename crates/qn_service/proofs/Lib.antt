@@ -32,6 +32,7 @@ pub mod LeaderSays
 pub mod Least
 pub mod Led
 pub mod LedLooks
+pub mod LedNodes
 pub mod LeftOut
 pub mod LogViews
 pub mod Made

@@ -1,5 +1,6 @@
 -- When the others have the view of their leader, and a majority of them an owner. This project's profile.
 use Rattle.std.specs.Prelude.{◌≡◌, ◌+◌, ◌*◌, ◌<◌, ◌≤◌, ℕ, true, false, max, List, ◌∷◌, ◌++◌, length, Some}
+use Rattle.qn_base.specs.declared.ids.Mask.{Mask}
 use Rattle.qn_base.specs.declared.ids.View.{View}
 use Rattle.qn_base.specs.Members.{is_member}
 use Rattle.qn_model.specs.declared.configuration.Settings.{Settings}
@@ -9,7 +10,7 @@ use Rattle.qn_member.specs.Maker.{has_configured}
 use Rattle.qn_member.specs.NamingViews.{after_look, may_not_start}
 use Rattle.qn_progress.specs.Pace.{Pace, outside}
 use Rattle.qn_joined.specs.Joints.{Happening, IsJoined, joint_after, runs_at}
-use Rattle.qn_service.specs.Agreeing.{EachLookIs}
+use Rattle.qn_service.specs.Agreeing.{EachLookIs, LooksAgree, SettlesIn, settle_ticks}
 use Rattle.qn_service.specs.Announced.{AnnouncementsAreOwn, announce_ticks}
 use Rattle.qn_service.specs.Hellos.{LooksOften, StaysAwake, WordsCome}
 use Rattle.qn_service.specs.KeptViews.{AgreeOnView, KeepsOneView}
@@ -87,3 +88,32 @@ NodesServe s t =
     → 100 * serving_ticks t pace post (outside s (log_after s image at rank)) + 99 * (joint_after s image at).time
     ≤ 99 * (joint_after s image (newer ++ older)).time
     → (owner : ℕ) × (is_member present.members owner ≡ true) × (runs_at s image (newer ++ older) owner ≡ true)
+
+-- ## Service
+
+-- From an old joint to a new one these nodes are configured, their leader looks often, all that its looks see know names, and each other one follows it.
+pub record AreLed (s : Settings) (image : ℕ → List ℕ) (turn post gaze : ℕ) (set : Mask) (leader : ℕ) (old new : List Happening) : Type 0 where
+  pub configured : (rank : ℕ) → is_member set rank ≡ true → rank < length s.nodes
+  pub members : has_configured s.nodes set ≡ true
+  pub looks : LooksOften s image gaze leader old new
+  pub names : EachLookIs s image leader (λ look. names_then look.tick look.maker ≡ true) old new
+  pub follows : (rank : ℕ) → is_member set rank ≡ true → ¬ (rank ≡ leader) → FollowsLeader s image turn post gaze rank leader old new
+
+-- Nodes whose looks agree from one joint on: their leader settles by the next one, they are led from then on, and have its view by the last. A majority of
+-- them has an owner, one of them, the time of a take-over after that.
+abbrev pub Service : Settings → Timing → Type 0
+Service s t =
+    (image : ℕ → List ℕ) (pace : Pace) (turn post gaze : ℕ) (set : Mask) (leader rank : ℕ) (newer older settled at : List Happening)
+    → IsJoined s t image (newer ++ older)
+    → LooksAgree s t image turn post gaze set leader older (newer ++ older)
+    → SettlesIn s image turn gaze set leader older (newer ++ older)
+    → Before older settled
+    → Before settled at
+    → Before at (newer ++ older)
+    → 100 * settle_ticks t turn post gaze + 99 * (joint_after s image older).time ≤ 99 * (joint_after s image settled).time
+    → AreLed s image turn post gaze set leader settled (newer ++ older)
+    → 100 * (follow_ticks t turn post gaze + gaze + 2) + 99 * (joint_after s image settled).time ≤ 99 * (joint_after s image at).time
+    → ((present : View) → present.members ≡ set → MayServe s t image pace post rank present at (newer ++ older))
+    → 100 * serving_ticks t pace post (outside s (log_after s image at rank)) + 99 * (joint_after s image at).time
+    ≤ 99 * (joint_after s image (newer ++ older)).time
+    → (owner : ℕ) × (is_member set owner ≡ true) × (runs_at s image (newer ++ older) owner ≡ true)

@@ -3,7 +3,7 @@ ghost use Rattle.qn_model.specs.declared.configuration.Settings.{Settings};
 ghost use Rattle.qn_model.specs.declared.times.Timing.{Timing};
 ghost use Rattle.qn_service.specs.Agreeing.{CompaniesAreFound, LeadersSettle};
 ghost use Rattle.qn_service.specs.Announced.{AnnouncementsCome};
-ghost use Rattle.qn_service.specs.Following.{FollowersTakeIt, LooksComeToAgree, NodesServe};
+ghost use Rattle.qn_service.specs.Following.{FollowersTakeIt, LooksComeToAgree, NodesServe, Service};
 
 use crate::serving::law_looks_serve;
 
@@ -72,4 +72,12 @@ pub fn law_leaders_settle()
     qn_sector::law_read_back();
     qn_joined::law_worlds();
     qn_joined::law_each_is_one_event();
+}
+
+/// Law: a majority whose looks agree has an owner, one of them, within a stated time: the leader settles, the others follow it, and one takes over.
+pub fn law_service()
+    ensures { (s : Settings) (t : Timing) → Service s t }
+{
+    law_leaders_settle();
+    law_nodes_serve();
 }

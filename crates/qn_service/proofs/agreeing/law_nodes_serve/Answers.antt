@@ -1,4 +1,4 @@
-use Rattle.qn_service.proofs.FollowingLooks.{nodes_serve}
+use Rattle.qn_service.proofs.LedNodes.{nodes_serve}
 use Rattle.qn_service.proofs.agreeing.law_nodes_serve.Goals as goal
 
 pub returns : goal.returns
