@@ -20,7 +20,7 @@ use Rattle.qn_joined.specs.Joints.{Happening, IsJoined, joint_after}
 use Rattle.qn_joined.specs.Moves.{EachIsOneEvent}
 use Rattle.qn_joined.specs.Stands.{Looking}
 use Rattle.qn_joined.specs.WorldOf.{EveryJointHasAWorld}
-use Rattle.qn_service.specs.Announced.{AnnouncementsCome, IsAnnouncing, WasSaidLately, announce_ticks}
+use Rattle.qn_service.specs.Announcements.{AnnouncementsCome, IsAnnouncing, WasSaidLately, announce_ticks}
 use Rattle.qn_service.specs.Hellos.{IsHeardBy, SaidHello, Says, beat_ticks, packet_chosen, packet_to_hear, packet_waiting}
 use Rattle.qn_service.specs.Looks.{LookOf, look_at}
 use Rattle.qn_service.specs.NextLooks.{look_of_rank}

@@ -20,7 +20,7 @@ use Rattle.qn_safety.specs.Earlier.{before_joined, before_tail, before_then}
 use Rattle.qn_joined.specs.Joints.{Happening, IsJoined, joint_after}
 use Rattle.qn_joined.specs.Moves.{EachIsOneEvent}
 use Rattle.qn_joined.specs.WorldOf.{EveryJointHasAWorld}
-use Rattle.qn_service.specs.Announced.{IsAnnouncing, announce_ticks}
+use Rattle.qn_service.specs.Announcements.{IsAnnouncing, announce_ticks}
 use Rattle.qn_service.specs.Following.{FollowersTakeIt, FollowsLeader, KeepsLeading, LooksComeToAgree, follow_ticks}
 use Rattle.qn_service.specs.Company.{IsLedByName}
 use Rattle.qn_service.specs.Hellos.{HasLooked}

@@ -23,7 +23,7 @@ use Rattle.qn_safety.specs.Earlier.{before_joined, before_tail, before_then}
 use Rattle.qn_joined.specs.Joints.{Happening, IsJoined, joint_after}
 use Rattle.qn_joined.specs.Moves.{EachIsOneEvent}
 use Rattle.qn_joined.specs.WorldOf.{EveryJointHasAWorld}
-use Rattle.qn_service.specs.Agreeing.{CompaniesAreFound, FindsLeader, IsFollowing, LooksAgree, found_ticks}
+use Rattle.qn_service.specs.Leaders.{CompaniesAreFound, FindsLeader, IsFollowing, LooksAgree, found_ticks}
 use Rattle.qn_service.specs.Hellos.{IsHeardBy, SaidHello, Says, StaysAwake, WasSaid, beat_ticks, hello_ticks}
 use Rattle.qn_service.specs.Leading.{company_then, leader_then, names_then}
 use Rattle.qn_service.specs.Looks.{LookOf, look_of}

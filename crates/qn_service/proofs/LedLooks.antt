@@ -8,7 +8,7 @@ use Rattle.qn_safety.specs.Earlier.{before_tail, before_then}
 use Rattle.qn_joined.specs.Joints.{Happening, IsJoined, joint_after}
 use Rattle.qn_joined.specs.Moves.{EachIsOneEvent}
 use Rattle.qn_joined.specs.WorldOf.{EveryJointHasAWorld}
-use Rattle.qn_service.specs.Agreeing.{EachLookIs}
+use Rattle.qn_service.specs.Leaders.{EachLookIs}
 use Rattle.qn_service.specs.Hellos.{HasLooked, LooksOften, StaysAwake}
 use Rattle.qn_service.specs.Looks.{LookOf}
 use Rattle.qn_service.specs.NextLooks.{look_of_rank}

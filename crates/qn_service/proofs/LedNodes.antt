@@ -10,7 +10,7 @@ use Rattle.qn_member.specs.Maker.{has_configured}
 use Rattle.qn_progress.specs.Pace.{Pace, outside}
 use Rattle.qn_safety.specs.Earlier.{before_then}
 use Rattle.qn_joined.specs.Joints.{Happening, IsJoined, joint_after, runs_at}
-use Rattle.qn_service.specs.Agreeing.{HasSettled, LeadersSettle, SettlesIn}
+use Rattle.qn_service.specs.Leaders.{HasSettled, LeadersSettle, SettlesIn}
 use Rattle.qn_service.specs.Following.{AreLed, KeepsLeading, LooksComeToAgree, NodesServe, Service}
 use Rattle.qn_service.specs.KeptViews.{AgreeOnView, LooksServe}
 use Rattle.qn_service.specs.Serving.{MayServe, serving_ticks}

@@ -19,7 +19,7 @@ use Rattle.qn_safety.specs.Earlier.{before_tail, before_then}
 use Rattle.qn_joined.specs.Joints.{Happening, IsJoined, joint_after}
 use Rattle.qn_joined.specs.Moves.{EachIsOneEvent}
 use Rattle.qn_joined.specs.WorldOf.{EveryJointHasAWorld}
-use Rattle.qn_service.specs.Agreeing.{HasSettled, LeadersSettle, LooksAgree, MaySettle, SettlesIn, found_ticks, settle_ticks}
+use Rattle.qn_service.specs.Leaders.{HasSettled, LeadersSettle, LooksAgree, MaySettle, SettlesIn, found_ticks, settle_ticks}
 use Rattle.qn_service.specs.Company.{FindsCompany}
 use Rattle.qn_service.specs.Hellos.{HasLooked}
 use Rattle.qn_service.specs.KeptViews.{KeepsOneView, KeepsView, WasLeft}

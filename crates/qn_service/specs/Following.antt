@@ -10,8 +10,8 @@ use Rattle.qn_member.specs.Maker.{has_configured}
 use Rattle.qn_member.specs.NamingViews.{after_look, may_not_start}
 use Rattle.qn_progress.specs.Pace.{Pace, outside}
 use Rattle.qn_joined.specs.Joints.{Happening, IsJoined, joint_after, runs_at}
-use Rattle.qn_service.specs.Agreeing.{EachLookIs, LooksAgree, SettlesIn, settle_ticks}
-use Rattle.qn_service.specs.Announced.{AnnouncementsAreOwn, announce_ticks}
+use Rattle.qn_service.specs.Leaders.{EachLookIs, LooksAgree, SettlesIn, settle_ticks}
+use Rattle.qn_service.specs.Announcements.{AnnouncementsAreOwn, announce_ticks}
 use Rattle.qn_service.specs.Hellos.{LooksOften, StaysAwake, WordsCome}
 use Rattle.qn_service.specs.KeptViews.{AgreeOnView, KeepsOneView}
 use Rattle.qn_service.specs.Leading.{leader_then, names_then}

@@ -1,5 +1,5 @@
-pub mod Agreeing
-pub mod Announced
+pub mod Leaders
+pub mod Announcements
 pub mod Between
 pub mod Company
 pub mod Following

@@ -28,14 +28,14 @@
 //! (`law_looks_see`). So each look of a node of a set whose nodes stay in sight of one another sees just the set (`law_looks_find_sets`).
 #![tactic(auto)]
 
-mod agreeing;
+mod service;
 mod hellos;
 mod laws;
 mod looks;
 mod owners;
 mod serving;
 
-pub use agreeing::{
+pub use service::{
     law_announcements_come, law_companies_are_found, law_followers_come_to_it,
     law_looks_come_to_agree,
 };

@@ -1,8 +1,8 @@
 //! The laws of running nodes whose looks agree on a leader.
 ghost use Rattle.qn_model.specs.declared.configuration.Settings.{Settings};
 ghost use Rattle.qn_model.specs.declared.times.Timing.{Timing};
-ghost use Rattle.qn_service.specs.Agreeing.{CompaniesAreFound, LeadersSettle};
-ghost use Rattle.qn_service.specs.Announced.{AnnouncementsCome};
+ghost use Rattle.qn_service.specs.Leaders.{CompaniesAreFound, LeadersSettle};
+ghost use Rattle.qn_service.specs.Announcements.{AnnouncementsCome};
 ghost use Rattle.qn_service.specs.Following.{FollowersTakeIt, LooksComeToAgree, NodesServe, Service};
 
 use crate::serving::law_looks_serve;

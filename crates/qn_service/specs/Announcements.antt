@@ -10,7 +10,7 @@ use Rattle.qn_model.specs.Wanted.{rank_of}
 use Rattle.qn_member.specs.Maker.{has_configured, of_rank}
 use Rattle.qn_member.specs.NamingViews.{after_look, view_announced}
 use Rattle.qn_joined.specs.Joints.{Happening, IsJoined, joint_after}
-use Rattle.qn_service.specs.Agreeing.{EachLookIs}
+use Rattle.qn_service.specs.Leaders.{EachLookIs}
 use Rattle.qn_service.specs.Hellos.{LooksOften, Says, StaysAwake, WordsCome, beat_ticks, packet_to_hear}
 use Rattle.qn_service.specs.Looks.{LookOf}
 use Rattle.qn_service.specs.NextLooks.{look_of_rank}
