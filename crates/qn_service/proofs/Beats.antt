@@ -1,15 +1,13 @@
 -- A running node that is up and keeps its pace says its Hellos in time.
-use Rattle.std.proofs.Common.{◌≡◌, ◌⊎◌, inl, inr, ℕ, suc, zero, ◌+◌, ◌-◌, ◌*◌, ◌/◌, ◌<◌, ◌≤◌, Bool, true, false, not, ◌&&◌, ◌||◌, ◌==◌, List, [], ◌∷◌, ◌++◌, length, map, filter, Option, None, Some, if◌then◌else◌, refl, sym, ◌∙◌, ap, subst, arith}
+use Rattle.std.proofs.Common.{◌≡◌, ◌⊎◌, inl, inr, ℕ, suc, zero, ◌+◌, ◌-◌, ◌*◌, ◌<◌, ◌≤◌, Bool, true, false, not, ◌||◌, ◌==◌, List, [], ◌∷◌, ◌++◌, length, filter, Option, None, Some, if◌then◌else◌, refl, sym, ◌∙◌, ap, subst, arith}
 use Rattle.std.specs.Prelude.{nat_le, option_map}
 use Rattle.std.specs.List.{range_with_len}
 use Rattle.std.specs.Option.{option_map_or}
-use Rattle.std.proofs.lemmas.Bool.{cases_eq, eq-eqb, eqb-true, false≢true, leb-false}
+use Rattle.std.proofs.lemmas.Bool.{cases_eq, eqb-true, false≢true, leb-false}
 use Rattle.std.proofs.lemmas.Option.{none-some, same_Some}
-use Rattle.qn_base.specs.declared.calls.Call.{Call}
 use Rattle.qn_base.specs.declared.ids.Said as ids
 use Rattle.qn_base.specs.declared.ids.Standing.{Standing}
 use Rattle.qn_model.specs.declared.configuration.Settings.{Settings}
-use Rattle.qn_model.specs.declared.entries.What.{What}
 use Rattle.qn_model.specs.declared.packets.Packet.{Packet}
 use Rattle.qn_model.specs.declared.packets.Packet.TheVariants as packet
 use Rattle.qn_model.specs.declared.packets.Sent.{Sent}
@@ -23,14 +21,14 @@ use Rattle.qn_member.specs.Naming.{NamingMaker}
 use Rattle.qn_member.specs.NamingViews.{after_look, after_naming_hello_due, is_naming_hello_due, is_naming_news_due}
 use Rattle.qn_live.specs.declared.words.Own.{Own}
 use Rattle.qn_live.specs.Choosing.{told}
-use Rattle.qn_live.specs.Greetings.{greeting_packet, hello_of, hellos_where, maker_begun, maker_where, others_from, said_after, to_each}
+use Rattle.qn_live.specs.Greetings.{hello_of, hellos_where, maker_begun, maker_where, said_after, to_each}
 use Rattle.qn_joined.specs.Joints.{Happening}
 use Rattle.qn_joined.specs.Stands.{Acting, Ended, Looking, Parting, Polling, Receiving, Saying, Spot, log_at}
 use Rattle.qn_service.specs.Hellos.{Says, said_in}
 use Rattle.qn_service.specs.Serving.{clock_at}
 use Rattle.qn_service.proofs.KeptLoops.{loop_of, look_keeps, told_keeps}
 use Rattle.qn_service.proofs.Sound.{IsSound, begun_last, due_last, looked_beat, sound_places}
-use Rattle.qn_service.proofs.TurnSteps.{Besides, KnownAt, MakerIs, Places, StepsLead, maker_left, sends_left}
+use Rattle.qn_service.proofs.TurnSteps.{Besides, KnownAt, MakerIs, Places, StepsLead}
 
 -- ## What a turn is to send
 

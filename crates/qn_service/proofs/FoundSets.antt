@@ -1,5 +1,5 @@
 -- A look of a running node finds the set whose nodes stay together.
-use Rattle.std.proofs.Common.{◌≡◌, ◌⊎◌, inl, inr, ℕ, ◌+◌, ◌*◌, ◌/◌, ◌<◌, ◌≤◌, Bool, true, false, not, ◌&&◌, ◌||◌, ◌==◌, List, ◌∷◌, ◌++◌, Option, None, Some, length, max, refl, sym, ◌∙◌, ap, subst, arith}
+use Rattle.std.proofs.Common.{◌≡◌, ◌⊎◌, inl, inr, ℕ, ◌+◌, ◌*◌, ◌/◌, ◌<◌, ◌≤◌, Bool, true, false, ◌&&◌, ◌||◌, ◌==◌, List, ◌∷◌, ◌++◌, Option, None, Some, length, refl, sym, ◌∙◌, ap, subst, arith}
 use Rattle.std.specs.Prelude.{nat_le}
 use Rattle.std.specs.Option.{option_map_or}
 use Rattle.std.proofs.Math.Nat.{le-max_left, le-max_right}
@@ -13,7 +13,7 @@ use Rattle.qn_model.specs.Log.{now}
 use Rattle.qn_model.specs.Moments.{Before, Itself, Later}
 use Rattle.qn_member.specs.Maker.{Maker, is_visible, names, of_rank}
 use Rattle.qn_member.specs.Naming.{NamingMaker}
-use Rattle.qn_safety.specs.Earlier.{before_joined, before_tail, before_then}
+use Rattle.qn_safety.specs.Earlier.{before_tail}
 use Rattle.qn_joined.specs.Joints.{Happening, IsJoined, joint_after}
 use Rattle.qn_joined.specs.Moves.{EachIsOneEvent}
 use Rattle.qn_joined.specs.Stands.{Acting, Ended, Looking, Parting, Polling, Receiving, Saying, Spot, log_at}
@@ -25,7 +25,7 @@ use Rattle.qn_service.specs.NextLooks.{look_of_rank}
 use Rattle.qn_service.specs.Serving.{clock_at}
 use Rattle.qn_service.proofs.ByTheImage.{HeadersReadBack}
 use Rattle.qn_service.proofs.FreshHellos.{LookIs, look_is}
-use Rattle.qn_service.proofs.JointClocks.{ClockLaws, ClocksRun, ReturnOf, UpStep, clocks_run, read_at, up_step}
+use Rattle.qn_service.proofs.JointClocks.{ClockLaws, ReturnOf, UpStep, clocks_run, read_at, up_step}
 use Rattle.qn_service.proofs.KeptLoops.{loop_of, told_keeps}
 use Rattle.qn_service.proofs.LogViews.{always_shown}
 use Rattle.qn_service.proofs.NearHellos.{makers_loop, old_world}
@@ -35,7 +35,7 @@ use Rattle.qn_service.proofs.SaidHellos.{look_made, up_leads}
 use Rattle.qn_service.proofs.Shown.{Chooses, ShownAt}
 use Rattle.qn_service.proofs.Sound.{told_beat}
 use Rattle.qn_service.proofs.Tracing.{Traced, traced}
-use Rattle.qn_service.proofs.TurnSteps.{KnownAt, MakerAt, MakerIs, any_maker}
+use Rattle.qn_service.proofs.TurnSteps.{KnownAt, MakerAt, any_maker}
 
 -- what is known of the past is known of a tick that the log is not after
 past_old : (from limit : ℕ) (spot : Spot) → now (log_at spot) ≤ limit → KnownAt (past_places from) spot → KnownAt (old_places from limit) spot

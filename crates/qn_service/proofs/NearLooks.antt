@@ -1,45 +1,38 @@
 -- A look of a running node hears each one that is near it.
-use Rattle.std.proofs.Common.{◌≡◌, ◌⊎◌, inl, inr, ℕ, ◌+◌, ◌*◌, ◌/◌, ◌<◌, ◌≤◌, Bool, true, false, not, ◌||◌, ◌==◌, List, [], ◌∷◌, ◌++◌, Option, Some, length, refl, sym, ◌∙◌, ap, subst, arith}
+use Rattle.std.proofs.Common.{◌≡◌, ◌⊎◌, inl, inr, ℕ, ◌+◌, ◌*◌, ◌/◌, ◌<◌, ◌≤◌, true, false, ◌==◌, List, ◌∷◌, ◌++◌, Some, refl, sym, ◌∙◌, ap, subst, arith}
 use Rattle.std.specs.Prelude.{nat_le}
 use Rattle.std.specs.Option.{option_map_or}
-use Rattle.std.proofs.lemmas.Bool.{cases_lt, eq-eqb, eqb-true, false≢true, le-leb, or_right}
+use Rattle.std.proofs.lemmas.Bool.{cases_lt, le-leb, or_right}
 use Rattle.std.proofs.lemmas.Option.{same_Some}
 use Rattle.qn_model.specs.declared.configuration.Settings.{Settings}
-use Rattle.qn_model.specs.declared.events.Event.{Event}
-use Rattle.qn_model.specs.declared.packets.Packet.{Packet}
 use Rattle.qn_model.specs.declared.packets.Packet.TheVariants as packet
 use Rattle.qn_model.specs.declared.times.Timing.{Timing}
-use Rattle.qn_model.specs.Log.{Line, now}
+use Rattle.qn_model.specs.Log.{now}
 use Rattle.qn_model.specs.Moments.{Before, Itself, Later}
 use Rattle.qn_model.specs.NodeOutputs.{with_entry}
 use Rattle.qn_model.specs.Phases.{is_live, phase}
 use Rattle.qn_model.specs.Wanted.{rank_of}
-use Rattle.qn_base.specs.declared.calls.Call.{Call}
 use Rattle.qn_base.specs.declared.ids.Said.{Said}
 use Rattle.qn_base.specs.declared.ids.Standing.{Standing}
-use Rattle.qn_base.specs.declared.ids.View.{View}
-use Rattle.qn_base.specs.Members.{is_member}
 use Rattle.qn_io.specs.Answered.{time_of}
-use Rattle.qn_member.specs.Maker.{enough_of, is_heard, of_rank, plain}
+use Rattle.qn_member.specs.Maker.{enough_of, is_heard, plain}
 use Rattle.qn_member.specs.Naming.{NamingMaker, names_nobody}
 use Rattle.qn_live.specs.declared.place.Choice.{Choice}
-use Rattle.qn_live.specs.Choosing.{told}
 use Rattle.qn_live.specs.Running.{RunState}
-use Rattle.qn_safety.specs.Earlier.{before_joined, before_tail, before_then, before_total}
+use Rattle.qn_safety.specs.Earlier.{before_tail, before_then, before_total}
 use Rattle.qn_joined.specs.Joints.{Happening, Host, IsJoined, joint_after}
 use Rattle.qn_joined.specs.Moves.{EachIsOneEvent}
 use Rattle.qn_joined.specs.Stands.{Acting, Ended, Looking, Parting, Polling, Receiving, Saying, Spot, after_spot, log_at}
 use Rattle.qn_joined.specs.WorldOf.{EveryJointHasAWorld, HasWorld}
 use Rattle.qn_service.specs.Hellos.{IsHeardBy, IsNear, LooksHear, SaidHello, beat_ticks, hello_ticks, packet_chosen, packet_to_hear, packet_waiting}
-use Rattle.qn_service.specs.Looks.{LookOf, look_at, look_of}
+use Rattle.qn_service.specs.Looks.{LookOf, look_at}
 use Rattle.qn_service.specs.NextLooks.{look_of_rank}
 use Rattle.qn_service.specs.Serving.{clock_at}
 use Rattle.qn_service.specs.Unheard.{log_after}
 use Rattle.qn_service.proofs.ByTheImage.{HeadersReadBack}
 use Rattle.qn_service.proofs.FreshHellos.{HasFresh, KnowsHello, LookIs, NoFarewell, SaysSo, fresh_besides, fresh_leads, fresh_places, look_is, spot_hears, told_fresh}
-use Rattle.qn_service.proofs.JointClocks.{ClockLaws, ClocksRun, Made, ReturnOf, Still, UpStep, clocks_run, read_at, up_step}
+use Rattle.qn_service.proofs.JointClocks.{ClockLaws, ClocksRun, ReturnOf, UpStep, clocks_run, read_at, up_step}
 use Rattle.qn_service.proofs.KeptLoops.{loop_of, told_keeps}
-use Rattle.qn_service.proofs.Made.{filtered}
 use Rattle.qn_service.proofs.NearHellos.{makers_loop, old_world}
 use Rattle.qn_service.proofs.RankSteps.{host_after, returned_spot}
 use Rattle.qn_service.proofs.SaidHellos.{hello_said, look_made, some_loop, up_leads}

@@ -1,22 +1,20 @@
 -- From joint to joint a running node that is up and keeps its pace has said a Hello to each other one lately.
-use Rattle.std.proofs.Common.{◌≡◌, ◌⊎◌, inl, inr, ℕ, ◌+◌, ◌*◌, ◌/◌, ◌<◌, ◌≤◌, Bool, true, false, ◌&&◌, ◌==◌, List, [], ◌∷◌, ◌++◌, Option, None, Some, if◌then◌else◌, length, refl, sym, ◌∙◌, ap, subst, arith}
+use Rattle.std.proofs.Common.{◌≡◌, inl, inr, ℕ, ◌+◌, ◌<◌, ◌≤◌, true, ◌&&◌, ◌==◌, List, ◌∷◌, None, Some, if◌then◌else◌, length, sym, ◌∙◌, ap, subst, arith}
 use Rattle.std.specs.Prelude.{IsTrue, option_and_then, option_map}
 use Rattle.std.proofs.lemmas.Bool.{and_parts, eq-eqb, false≢true, leb-true}
-use Rattle.qn_base.specs.declared.calls.Call.{Call}
 use Rattle.qn_io.specs.Answered.{time_of}
 use Rattle.qn_model.specs.declared.configuration.Settings.{Settings}
 use Rattle.qn_model.specs.declared.events.Event.{Event}
 use Rattle.qn_model.specs.declared.packets.Sent.{Sent}
 use Rattle.qn_model.specs.declared.times.Timing.{Timing}
-use Rattle.qn_model.specs.Log.{Line, now}
+use Rattle.qn_model.specs.Log.{now}
 use Rattle.qn_model.specs.Moments.{Before, Itself, Later}
-use Rattle.qn_model.specs.NodeOutputs.{with_entry}
-use Rattle.qn_model.specs.Phases.{is_live, phase}
+use Rattle.qn_model.specs.Phases.{is_live}
 use Rattle.qn_model.specs.Timing.{has_periods, is_period}
 use Rattle.qn_safety.specs.Earlier.{before_tail}
 use Rattle.qn_live.specs.declared.place.Choice.{Choice}
 use Rattle.qn_live.specs.Running.{RunState}
-use Rattle.qn_joined.specs.Joints.{AllMayHappen, Happening, Host, Returns, joint_after}
+use Rattle.qn_joined.specs.Joints.{AllMayHappen, Happening, Host, joint_after}
 use Rattle.qn_joined.specs.Stands.{Acting, Ended, Looking, Parting, Polling, Receiving, Saying, Spot, Stand, after_spot, log_at}
 use Rattle.qn_service.specs.Hellos.{IsAwake, SaidHello, StaysAwake, beat_ticks, packet_chosen, said_in, sent_next}
 use Rattle.qn_service.specs.Looks.{LookOf, look_at, look_of}

@@ -1,7 +1,7 @@
 -- A look of a running node sees each one that stays in sight.
-use Rattle.std.proofs.Common.{◌≡◌, ◌⊎◌, inl, inr, ℕ, ◌+◌, ◌-◌, ◌*◌, ◌/◌, ◌^◌, ◌<◌, ◌≤◌, Bool, true, false, not, ◌&&◌, ◌||◌, ◌==◌, List, ◌∷◌, ◌++◌, Option, None, Some, length, max, if◌then◌else◌, refl, sym, ◌∙◌, ap, subst, arith, eq-eqb}
+use Rattle.std.proofs.Common.{◌≡◌, ℕ, ◌+◌, ◌-◌, ◌*◌, ◌/◌, ◌<◌, ◌≤◌, Bool, true, false, ◌==◌, List, ◌∷◌, ◌++◌, Some, length, max, if◌then◌else◌, refl, sym, ◌∙◌, ap, subst, arith}
 use Rattle.std.specs.Option.{option_map_or}
-use Rattle.std.proofs.lemmas.Bool.{and_from, eqb-true, false≢true, or_right}
+use Rattle.std.proofs.lemmas.Bool.{and_from, eqb-true, or_right}
 use Rattle.std.proofs.lemmas.Nat.Bits.{bit_at_ones}
 use Rattle.std.proofs.Math.Nat.{le-max_left}
 use Rattle.qn_base.specs.declared.ids.Said.{Said}
@@ -10,7 +10,6 @@ use Rattle.qn_base.specs.Members.{is_member}
 use Rattle.qn_io.specs.Answered.{time_of}
 use Rattle.qn_model.specs.declared.configuration.Settings.{Settings}
 use Rattle.qn_model.specs.declared.nodelist.NodeEntry.{NodeEntry}
-use Rattle.qn_model.specs.declared.events.Event.{Event}
 use Rattle.qn_model.specs.declared.packets.Packet.TheVariants as packet
 use Rattle.qn_model.specs.declared.times.Timing.{Timing}
 use Rattle.qn_model.specs.Moments.{Before, Itself, Later}
@@ -18,9 +17,9 @@ use Rattle.qn_model.specs.Phases.{is_live, phase}
 use Rattle.qn_model.specs.Votes.{quorum_of}
 use Rattle.qn_model.specs.Wanted.{rank_of}
 use Rattle.qn_member.specs.Maker.{enough_of, is_heard, is_visible, plain}
-use Rattle.qn_member.specs.Naming.{NamingMaker, names_nobody}
+use Rattle.qn_member.specs.Naming.{NamingMaker}
 use Rattle.qn_member.specs.NamingViews.{after_look}
-use Rattle.qn_safety.specs.Earlier.{before_joined, before_tail, before_then}
+use Rattle.qn_safety.specs.Earlier.{before_tail, before_then}
 use Rattle.qn_joined.specs.Joints.{Happening, Host, IsJoined, joint_after}
 use Rattle.qn_joined.specs.Moves.{EachIsOneEvent}
 use Rattle.qn_joined.specs.Stands.{Spot, after_spot, log_at}
@@ -30,7 +29,7 @@ use Rattle.qn_service.specs.Looks.{LookOf, look_at}
 use Rattle.qn_service.specs.NextLooks.{look_of_rank}
 use Rattle.qn_service.specs.Serving.{clock_at}
 use Rattle.qn_service.proofs.ByTheImage.{HeadersReadBack}
-use Rattle.qn_service.proofs.FreshHellos.{KnowsHello, LookIs, SaysSo, look_is, sound_before}
+use Rattle.qn_service.proofs.FreshHellos.{KnowsHello, LookIs, look_is, sound_before}
 use Rattle.qn_service.proofs.JointClocks.{ClockLaws, ClocksRun, ReturnOf}
 use Rattle.qn_service.proofs.LogViews.{always_shown}
 use Rattle.qn_service.proofs.NearLooks.{LastBefore, SaysSoFrom, from_runs, heard_it, hears_by, hello, knows, look_hears, made_look, mid, to_runs, to_step}
