@@ -1,3 +1,4 @@
+pub mod Agreeing
 pub mod Beats
 pub mod Between
 pub mod ByTheImage

@@ -1,3 +1,4 @@
+pub mod Agreeing
 pub mod Between
 pub mod Company
 pub mod Heard

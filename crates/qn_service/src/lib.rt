@@ -26,6 +26,7 @@
 //! Who is heard and seen: a node that keeps its pace says its Hellos in time (`law_hellos_are_said`), each look of another one hears it where
 //! packets come in time (`law_looks_hear`), as in a run that is given (`law_hellos_are_met`), and sees it where each of the two hears the other
 //! (`law_looks_see`). So each look of a node of a set whose nodes stay in sight of one another sees just the set (`law_looks_find_sets`).
+//! Looks that see the same, and find the same of all, follow the same node (`law_alike_looks_follow_one`).
 #![tactic(auto)]
 
 mod hellos;
@@ -39,8 +40,8 @@ pub use hellos::{
 };
 pub use laws::{law_nobody_is_reset, law_reset_is_met, law_resets_the_unheard};
 pub use looks::{
-    law_company_is_view, law_followers_take_it, law_least_members_made_it, law_left_out,
-    law_made_or_taken, law_views_stay,
+    law_alike_looks_follow_one, law_company_is_view, law_followers_take_it,
+    law_least_members_made_it, law_left_out, law_made_or_taken, law_views_stay,
 };
 pub use owners::{
     law_holders_run, law_looks_by_the_image, law_moments_are_of_joints, law_nobody_heard_is_reset,
