@@ -1,5 +1,5 @@
 -- Looks that find the same follow the same one.
-use Rattle.std.proofs.Common.{◌≡◌, ℕ, suc, zero, ◌^◌, ◌<◌, Bool, true, false, ◌&&◌, List, Option, None, Some, if◌then◌else◌, length, cond, refl, sym, ◌∙◌, ap, subst, arith}
+use Rattle.std.proofs.Common.{◌≡◌, ℕ, suc, zero, ◌^◌, ◌<◌, Bool, true, ◌&&◌, List, Option, length, cond, refl, sym, ◌∙◌, ap, arith}
 use Rattle.std.specs.Prelude.{bit_or, option_map}
 use Rattle.std.specs.Option.{option_or}
 use Rattle.qn_base.specs.declared.ids.Mask.{Mask}

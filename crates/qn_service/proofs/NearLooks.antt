@@ -30,7 +30,7 @@ use Rattle.qn_service.specs.NextLooks.{look_of_rank}
 use Rattle.qn_service.specs.Serving.{clock_at}
 use Rattle.qn_service.specs.Unheard.{log_after}
 use Rattle.qn_service.proofs.ByTheImage.{HeadersReadBack}
-use Rattle.qn_service.proofs.FreshHellos.{HasFresh, KnowsHello, LookIs, NoFarewell, SaysSo, fresh_besides, fresh_leads, fresh_places, look_is, spot_hears, told_fresh}
+use Rattle.qn_service.proofs.FreshHellos.{HasFresh, KnowsHello, LookIs, NoFarewell, PlainSo, SaysSo, fresh_besides, fresh_leads, fresh_places, look_is, spot_hears, told_fresh}
 use Rattle.qn_service.proofs.JointClocks.{ClockLaws, ClocksRun, ReturnOf, UpStep, clocks_run, read_at, up_step}
 use Rattle.qn_service.proofs.KeptLoops.{loop_of, told_keeps}
 use Rattle.qn_service.proofs.NearHellos.{makers_loop, old_world}
@@ -149,6 +149,9 @@ module _ (s : Settings) (t : Timing) (worlds : EveryJointHasAWorld s t) (one : E
   pub to_step : (newest : Happening) (at : List Happening) → Before older at → Before (newest ∷ at) all → UpStep s t image to newest at
   to_step = up_step s t image to older all has.events it.events laws it.trace joined.may (λ at since until. (near.hearer at since until).is)
 
+  pub from_step : (newest : Happening) (at : List Happening) → Before older at → Before (newest ∷ at) all → UpStep s t image from newest at
+  from_step = up_step s t image from older all has.events it.events laws it.trace joined.may (λ at since until. (near.sender at since until).is)
+
   -- a happening takes a turn at most
   turn_passes : (newest : Happening) (at : List Happening) → Before older at → Before (newest ∷ at) all → clock_at s image (newest ∷ at) to ≤ clock_at s image at to + turn
   turn_passes newest at since until = omega (arith, paced, read)
@@ -197,21 +200,23 @@ module _ (s : Settings) (t : Timing) (worlds : EveryJointHasAWorld s t) (one : E
 
   -- a Hello that a look hears after a joint says what is so
   abbrev pub SaysSoFrom : (Said → Type 0) → List Happening → Type 0
-  SaysSoFrom P base = (at : List Happening) → Before base at → Before at all → SaysSo from P (packet_to_hear s image to at)
+  SaysSoFrom P base = (at : List Happening) → Before base at → Before at all
+      → SaysSo from P (packet_to_hear s image to at) × PlainSo from P (packet_to_hear s image to at)
 
-  fresh_on : (P : Said → Type 0) → P plain → (since : ℕ) (base at : List Happening) → Before older base → Before base at → Before at all → SaysSoFrom P base
+  fresh_on : (P : Said → Type 0) (since : ℕ) (base at : List Happening) → Before older base → Before base at → Before at all → SaysSoFrom P base
       → KnownAt (fresh_places from since P) (host_after s image to base).stand.spot → KnownAt (fresh_places from since P) (host_after s image to at).stand.spot
-  fresh_on P plain_so since base at after Itself until so known = known
-  fresh_on P plain_so since base (newest ∷ at) after (Later same order) until so known =
-      up_leads s t image to newest at (fresh_besides s from P) (fresh_places from since P) (fresh_places from since P) (fresh_leads s to from since P plain_so)
+  fresh_on P since base at after Itself until so known = known
+  fresh_on P since base (newest ∷ at) after (Later same order) until so known =
+      up_leads s t image to newest at (fresh_besides s from P) (fresh_places from since P) (fresh_places from since P) (fresh_leads s to from since P)
       (to_step newest at (before_then after order) until)
       (λ chosen is tick told. (
         stays_at at (before_then after order) (before_tail until) chosen is,
-        λ said standing comes. so at order (before_tail until) said standing (ap packet_waiting is ∙ comes),
+        λ said standing comes. (so at order (before_tail until)).0 said standing (ap packet_waiting is ∙ comes),
+        λ comes. (so at order (before_tail until)).1 (ap packet_waiting is ∙ comes),
       ))
       (λ look is. tt) (λ sent rest st is says. tt)
       (ap is_live (near.hearer (newest ∷ at) (Later newest (before_then after order)) until).is.up) (any_maker (host_after s image to at).stand.spot)
-      (fresh_on P plain_so since base at after order (before_tail until) so known)
+      (fresh_on P since base at after order (before_tail until) so known)
 
   pub made_look : (newest : Happening) (at : List Happening) (look : LookOf) → Before older at → Before (newest ∷ at) all → look_of_rank s image to newest at ≡ Some look
       → (r : ReturnOf s t image to newest at) × (look_at to (host_after s image to at).stand.spot r.made ≡ Some look)
@@ -225,12 +230,12 @@ module _ (s : Settings) (t : Timing) (worlds : EveryJointHasAWorld s t) (one : E
       is.tick ∙ made.0.told is.chosen is.is
 
   -- a Hello that a look heard is known after it
-  heard_then : (P : Said → Type 0) → P plain → ((enough_of s == 0) ≡ true → P names_nobody) → (limit : ℕ) (since : List Happening) → Before older since
+  heard_then : (P : Said → Type 0) → ((enough_of s == 0) ≡ true → P names_nobody × P plain) → (limit : ℕ) (since : List Happening) → Before older since
       → (said : Said) (standing : Standing) → P said → (h : IsHeardBy s image to (packet.Heard (rank_of from) said standing) limit since all)
       → KnownAt (fresh_places from h.look.tick P) (host_after s image to (h.happening ∷ h.at)).stand.spot
-  heard_then P plain_so two limit since after said standing so h =
+  heard_then P two limit since after said standing so h =
       subst (KnownAt (fresh_places from h.look.tick P)) (sym there)
-      (spot_hears s to from P plain_so near.configured.0 joined.fits.few two said standing so h.look host.leave host.stand.turn host.stand.more host.stand.spot made.0.made made.1
+      (spot_hears s to from P near.configured.0 joined.fits.few two said standing so h.look host.leave host.stand.turn host.stand.more host.stand.spot made.0.made made.1
       h.hears (always_sound s image to h.at)
       (subst (λ (spot : Spot). is_live (phase s (log_at spot)) ≡ true) there
       (ap is_live (near.hearer (h.happening ∷ h.at) (Later h.happening (before_then after h.after)) h.back).is.up)))
@@ -340,12 +345,12 @@ module _ (s : Settings) (t : Timing) (worlds : EveryJointHasAWorld s t) (one : E
         ∙ subst (MakerAt (λ m. loop_of m ≡ t.loop_ms)) is.is (makers_loop s t worlds back image newer older joined turn to near.hearer at since until_at) is.before is.had
 
     -- the Hello that is known at the look says what each says that was heard since
-    module _ (P : Said → Type 0) (plain_so : P plain) (two : (enough_of s == 0) ≡ true → P names_nobody) (so : P hello.said)
+    module _ (P : Said → Type 0) (two : (enough_of s == 0) ≡ true → P names_nobody × P plain) (so : P hello.said)
         (all_so : SaysSoFrom P (heard_it.happening ∷ heard_it.at)) where
       known : KnownAt (fresh_places from heard_it.look.tick P) (host_after s image to at).stand.spot
       known =
-          fresh_on P plain_so heard_it.look.tick (heard_it.happening ∷ heard_it.at) at (Later heard_it.happening heard_since) heard_before until_at all_so
-          (heard_then P plain_so two (clock_at s image hello.at to + post) (hello.happening ∷ hello.at) (Later hello.happening hello.after) hello.said hello.standing so heard_it)
+          fresh_on P heard_it.look.tick (heard_it.happening ∷ heard_it.at) at (Later heard_it.happening heard_since) heard_before until_at all_so
+          (heard_then P two (clock_at s image hello.at to + post) (hello.happening ∷ hello.at) (Later hello.happening hello.after) hello.said hello.standing so heard_it)
 
       fresh : HasFresh from heard_it.look.tick P is.chosen.1.log is.chosen.1.maker
       fresh = subst (KnownAt (fresh_places from heard_it.look.tick P)) is.is known
@@ -357,10 +362,11 @@ module _ (s : Settings) (t : Timing) (worlds : EveryJointHasAWorld s t) (one : E
       pub knows : KnowsHello from heard_it.look.tick P look.maker.maker
       knows =
           subst (λ (m : NamingMaker). KnowsHello from heard_it.look.tick P m.maker) (sym is.told)
-          (told_fresh from heard_it.look.tick P plain_so (time_of made.0.made) is.own (packet_chosen is.chosen.0) is.before
+          (told_fresh from heard_it.look.tick P (time_of made.0.made) is.own (packet_chosen is.chosen.0) is.before
           (let grows = to_grows heard_it.at at heard_since (before_tail heard_before) until_at in let told = heard_tick in let here = tick_is in omega (arith, grows, told, here))
           (stays_at at since until_at is.chosen is.is)
-          (λ said standing comes. all_so at heard_before until_at said standing (ap packet_waiting is.is ∙ comes)) before_knows)
+          (λ said standing comes. (all_so at heard_before until_at).0 said standing (ap packet_waiting is.is ∙ comes))
+          (λ comes. (all_so at heard_before until_at).1 (ap packet_waiting is.is ∙ comes)) before_knows)
 
     pub hears_by : (P : Said → Type 0) → KnowsHello from heard_it.look.tick P look.maker.maker → is_heard look.tick look.maker.maker from ≡ true
     hears_by P knows =
@@ -374,7 +380,7 @@ module _ (s : Settings) (t : Timing) (worlds : EveryJointHasAWorld s t) (one : E
             omega (arith, same, here, late_then, enough, loop)
 
     pub look_hears : is_heard look.tick look.maker.maker from ≡ true
-    look_hears = hears_by (λ said. Unit {0}) (knows (λ said. Unit {0}) tt (λ none. tt) tt (λ h order until' said standing comes. tt))
+    look_hears = hears_by (λ said. Unit {0}) (knows (λ said. Unit {0}) (λ none. (tt, tt)) tt (λ h order until'. (λ said standing comes. tt, λ comes. tt)))
 
 pub looks_hear : (s : Settings) (t : Timing) → EveryJointHasAWorld s t → EachIsOneEvent s t → HeadersReadBack → ClockLaws → LooksHear s t
 looks_hear s t worlds one back laws image turn post from to newer older at happening look joined near since until found late =

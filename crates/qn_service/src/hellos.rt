@@ -1,7 +1,7 @@
 //! The laws of what running nodes say and hear.
 ghost use Rattle.qn_model.specs.declared.configuration.Settings.{Settings};
 ghost use Rattle.qn_model.specs.declared.times.Timing.{Timing};
-ghost use Rattle.qn_service.specs.Hellos.{HellosAreMet, HellosAreSaid, LooksFindSets, LooksHear, LooksSee};
+ghost use Rattle.qn_service.specs.Hellos.{HellosAreMet, HellosAreSaid, LooksFindSets, LooksHear, LooksKnowWords, LooksSee};
 
 /// Law: a node that is up and keeps its pace says a Hello to each other one at least each half loop and two turns.
 pub fn law_hellos_are_said()
@@ -18,6 +18,18 @@ pub fn law_hellos_are_said()
 /// farewell, once a beat, some turns and the way of a packet have passed.
 pub fn law_looks_hear()
     ensures { (s : Settings) (t : Timing) → LooksHear s t }
+{
+    qn_safety::law_any_runs_are_timed();
+    qn_safety::law_clocks();
+    qn_sector::law_read_back();
+    qn_joined::law_worlds();
+    qn_joined::law_each_is_one_event();
+}
+
+/// Law: what each look of such a node knows another one to have said last passes a test, where that looks often, its Hellos are its own, and what
+/// each look of it leaves to be said passes the test.
+pub fn law_looks_know_words()
+    ensures { (s : Settings) (t : Timing) → LooksKnowWords s t }
 {
     qn_safety::law_any_runs_are_timed();
     qn_safety::law_clocks();
