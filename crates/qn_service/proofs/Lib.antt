@@ -42,6 +42,7 @@ mod Rows
 pub mod ServedBy
 pub mod SaidHellos
 pub mod SaidNames
+pub mod SaidViews
 pub mod SeenLooks
 mod ServingRows
 pub mod Shown

@@ -1,4 +1,5 @@
 pub mod Agreeing
+pub mod Announced
 pub mod Between
 pub mod Company
 pub mod Heard

@@ -1,11 +1,23 @@
 //! The laws of what running nodes say and hear.
 ghost use Rattle.qn_model.specs.declared.configuration.Settings.{Settings};
 ghost use Rattle.qn_model.specs.declared.times.Timing.{Timing};
+ghost use Rattle.qn_service.specs.Announced.{ViewsAreAnnounced};
 ghost use Rattle.qn_service.specs.Hellos.{HellosAreMet, HellosAreSaid, LooksFindSets, LooksHear, LooksKnowWords, LooksSee};
 
 /// Law: a node that is up and keeps its pace says a Hello to each other one at least each half loop and two turns.
 pub fn law_hellos_are_said()
     ensures { (s : Settings) (t : Timing) → HellosAreSaid s t }
+{
+    qn_safety::law_any_runs_are_timed();
+    qn_safety::law_clocks();
+    qn_sector::law_read_back();
+    qn_joined::law_worlds();
+    qn_joined::law_each_is_one_event();
+}
+
+/// Law: such a node announces a view to each other one as often, from a look on that leaves it announcing that, while each look does.
+pub fn law_views_are_announced()
+    ensures { (s : Settings) (t : Timing) → ViewsAreAnnounced s t }
 {
     qn_safety::law_any_runs_are_timed();
     qn_safety::law_clocks();

@@ -38,7 +38,7 @@ mod serving;
 
 pub use hellos::{
     law_hellos_are_met, law_hellos_are_said, law_looks_find_sets, law_looks_hear,
-    law_looks_know_words, law_looks_see,
+    law_looks_know_words, law_looks_see, law_views_are_announced,
 };
 pub use laws::{law_nobody_is_reset, law_reset_is_met, law_resets_the_unheard};
 pub use looks::{

@@ -1,0 +1,47 @@
+-- What running nodes announce to one another, and what of that is known. This project's profile.
+use Rattle.std.specs.Prelude.{◌≡◌, ◌≤◌, ◌<◌, ◌+◌, ℕ, List, ◌∷◌, ◌++◌, length, Some}
+use Rattle.qn_base.specs.declared.ids.View.{View}
+use Rattle.qn_model.specs.declared.configuration.Settings.{Settings}
+use Rattle.qn_model.specs.declared.packets.Packet.TheVariants as packet
+use Rattle.qn_model.specs.declared.times.Timing.{Timing}
+use Rattle.qn_model.specs.Moments.{Before}
+use Rattle.qn_model.specs.Wanted.{rank_of}
+use Rattle.qn_member.specs.NamingViews.{after_look, view_announced}
+use Rattle.qn_joined.specs.Joints.{Happening, IsJoined}
+use Rattle.qn_service.specs.Hellos.{Says, StaysAwake, beat_ticks}
+use Rattle.qn_service.specs.Looks.{LookOf}
+use Rattle.qn_service.specs.NextLooks.{look_of_rank}
+use Rattle.qn_service.specs.Serving.{clock_at}
+
+-- each look of a rank between two joints leaves it announcing this view
+abbrev pub LooksAnnounce : Settings → (ℕ → List ℕ) → ℕ → View → List Happening → List Happening → Type 0
+LooksAnnounce s image from view old new =
+    (at : List Happening) (happening : Happening) (look : LookOf)
+    → Before old at → Before (happening ∷ at) new
+    → look_of_rank s image from happening at ≡ Some look
+    → view_announced (after_look look.tick look.maker) ≡ Some view
+
+-- between two joints one rank announced this view to another one, at most so many ticks of its clock before the new one
+pub record SaidView (s : Settings) (image : ℕ → List ℕ) (from to limit : ℕ) (view : View) (old new : List Happening) : Type 0 where
+  pub at : List Happening
+  pub happening : Happening
+  pub after : Before old at
+  pub back : Before (happening ∷ at) new
+  pub says : Says s image from to (packet.Announce (rank_of from) view) happening at
+  pub soon : clock_at s image new from ≤ clock_at s image at from + limit
+
+-- a node that is up and keeps its pace, of which a look leaves it announcing a view, and each one after that, announces it to each other one at each
+-- half loop and two turns
+abbrev pub ViewsAreAnnounced : Settings → Timing → Type 0
+ViewsAreAnnounced s t =
+    (image : ℕ → List ℕ) (turn from to : ℕ) (view : View) (newer earlier : List Happening) (first : Happening) (look : LookOf)
+    → IsJoined s t image (newer ++ first ∷ earlier)
+    → from < length s.nodes
+    → to < length s.nodes
+    → ¬ (to ≡ from)
+    → StaysAwake s image turn from (first ∷ earlier) (newer ++ first ∷ earlier)
+    → look_of_rank s image from first earlier ≡ Some look
+    → view_announced (after_look look.tick look.maker) ≡ Some view
+    → LooksAnnounce s image from view (first ∷ earlier) (newer ++ first ∷ earlier)
+    → clock_at s image (first ∷ earlier) from + beat_ticks t turn < clock_at s image (newer ++ first ∷ earlier) from
+    → SaidView s image from to (beat_ticks t turn) view (first ∷ earlier) (newer ++ first ∷ earlier)
