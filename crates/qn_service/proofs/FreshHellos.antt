@@ -64,7 +64,7 @@ SaysSo from P p = (said : Said) (standing : Standing) → p ≡ Some (packet.Hea
 abbrev pub PlainSo : ℕ → (Said → Type 0) → Option Packet → Type 0
 PlainSo from P p = p ≡ Some (packet.Hello (rank_of from)) → P plain
 
-set_or_same : {A : Type 0} (items : List (Option A)) (i j : ℕ) (a : A)
+pub set_or_same : {A : Type 0} (items : List (Option A)) (i j : ℕ) (a : A)
     → (of_rank (slice_set items i (Some a)) j ≡ Some a) ⊎ (of_rank (slice_set items i (Some a)) j ≡ of_rank items j)
 set_or_same [] i j a = inr refl
 set_or_same (x ∷ items) zero zero a = inl refl
@@ -72,7 +72,7 @@ set_or_same (x ∷ items) zero (suc j) a = inr refl
 set_or_same (x ∷ items) (suc i) zero a = inr refl
 set_or_same (x ∷ items) (suc i) (suc j) a = set_or_same items i j a
 
-set_other : {A : Type 0} (items : List (Option A)) (i j : ℕ) (x : Option A) → (i ≡ j → ⊥) → of_rank (slice_set items i x) j ≡ of_rank items j
+pub set_other : {A : Type 0} (items : List (Option A)) (i j : ℕ) (x : Option A) → (i ≡ j → ⊥) → of_rank (slice_set items i x) j ≡ of_rank items j
 set_other [] i j x apart = refl
 set_other (y ∷ items) zero zero x apart = absurd (apart refl)
 set_other (y ∷ items) zero (suc j) x apart = refl

@@ -22,6 +22,8 @@ pub mod KeptLoops
 mod KeptRows
 pub mod KeptViews
 pub mod Knowing
+pub mod KnownLooks
+pub mod KnownViews
 pub mod Least
 pub mod LeftOut
 pub mod LogViews

@@ -5,6 +5,7 @@ use Rattle.std.specs.Option.{option_map_or}
 use Rattle.std.proofs.lemmas.Bool.{cases_lt, le-leb, or_right}
 use Rattle.std.proofs.lemmas.Option.{same_Some}
 use Rattle.qn_model.specs.declared.configuration.Settings.{Settings}
+use Rattle.qn_model.specs.declared.packets.Packet.{Packet}
 use Rattle.qn_model.specs.declared.packets.Packet.TheVariants as packet
 use Rattle.qn_model.specs.declared.times.Timing.{Timing}
 use Rattle.qn_model.specs.Log.{now}
@@ -24,7 +25,7 @@ use Rattle.qn_joined.specs.Joints.{Happening, Host, IsJoined, joint_after}
 use Rattle.qn_joined.specs.Moves.{EachIsOneEvent}
 use Rattle.qn_joined.specs.Stands.{Acting, Ended, Looking, Parting, Polling, Receiving, Saying, Spot, after_spot, log_at}
 use Rattle.qn_joined.specs.WorldOf.{EveryJointHasAWorld, HasWorld}
-use Rattle.qn_service.specs.Hellos.{IsHeardBy, IsNear, LooksHear, SaidHello, beat_ticks, hello_ticks, packet_chosen, packet_to_hear, packet_waiting}
+use Rattle.qn_service.specs.Hellos.{IsHeardBy, IsNear, LooksHear, SaidHello, Says, beat_ticks, hello_ticks, packet_chosen, packet_to_hear, packet_waiting}
 use Rattle.qn_service.specs.Looks.{LookOf, look_at}
 use Rattle.qn_service.specs.NextLooks.{look_of_rank}
 use Rattle.qn_service.specs.Serving.{clock_at}
@@ -104,7 +105,7 @@ soon_enough : (beat turn post loop_ms from_old from_new to_old to_new time_old t
 soon_enough beat turn post loop_ms from_old from_new to_old to_new time_old time_new last slow fast lately close in_time =
     omega (arith, slow, fast, lately, close, in_time)
 
-late_enough : (beat turn post from_old from_new to_mid to_new time_old time_mid time_new : ℕ)
+pub late_enough : (beat turn post from_old from_new to_mid to_new time_old time_mid time_new : ℕ)
     → 99 * time_mid + from_old ≤ from_new + 99 * time_old
     → 99 * time_new + to_mid ≤ to_new + 99 * time_mid
     → to_new / 100 ≤ to_mid / 100 + post + turn
@@ -142,7 +143,7 @@ module _ (s : Settings) (t : Timing) (worlds : EveryJointHasAWorld s t) (one : E
   pub to_runs : (a b : List Happening) → Before older a → Before a b → Before b all → ClocksRun s image to a b
   to_runs = clocks_run s t image to older all has.events it.events laws it.trace joined.may (λ at since until. (near.hearer at since until).is)
 
-  to_grows : (a b : List Happening) → Before older a → Before a b → Before b all → clock_at s image a to ≤ clock_at s image b to
+  pub to_grows : (a b : List Happening) → Before older a → Before a b → Before b all → clock_at s image a to ≤ clock_at s image b to
   to_grows a b since order until =
       ticks_grow (host_after s image to a).clock (host_after s image to b).clock (to_runs a b since order until).grows
 
@@ -249,6 +250,41 @@ module _ (s : Settings) (t : Timing) (worlds : EveryJointHasAWorld s t) (one : E
       there : (host_after s image to (h.happening ∷ h.at)).stand.spot ≡ (after_spot s to host.leave host.stand.turn host.stand.more host.stand.spot made.0.made).spot
       there = made.0.stand ∙ returned_spot s to (joint_after s image h.at).time host made.0.made
 
+  -- ## What is heard
+
+  -- a packet was heard before a joint
+  pub record Reached (p : Packet) (limit : ℕ) (since at : List Happening) : Type 0 where
+    pub came : IsHeardBy s image to p limit since all
+    pub before : Before (came.happening ∷ came.at) at
+
+  pub reaches : (p : Packet) (said_at : List Happening) (said : Happening) (at : List Happening) → Before older said_at → Before (said ∷ said_at) at → Before at all
+      → Says s image from to p said said_at → clock_at s image said_at to + post < clock_at s image at to
+      → Reached p (clock_at s image said_at to + post) (said ∷ said_at) at
+  reaches p said_at said at after order until says late = record { came = came; before = by_place (before_total came.back until) }
+    where
+      since : Before older at
+      since = before_then (Later said after) order
+
+      came : IsHeardBy s image to p (clock_at s image said_at to + post) (said ∷ said_at) all
+      came = near.come said_at said p after (before_then order until) says (let grows = to_grows at all since until Itself in omega (arith, grows, late))
+
+      never : Before at came.at → ⊥
+      never later =
+          let grows = to_grows at came.at since later (before_tail came.back) in
+          let soon = came.soon in
+          omega (arith, grows, soon, late)
+
+      by_newest : {h : List Happening} → Before at h → h ≡ came.happening ∷ came.at → Before (came.happening ∷ came.at) at
+      by_newest Itself is = subst (λ (h : List Happening). Before h at) is Itself
+      by_newest (Later more {new = earlier} up_to) is = absurd (never (subst (λ (h : List Happening). Before at h) (tail_of is) up_to))
+        where
+          tail_of : {a b : Happening} {first second : List Happening} → a ∷ first ≡ b ∷ second → first ≡ second
+          tail_of e = cc
+
+      by_place : Before (came.happening ∷ came.at) at ⊎ Before at (came.happening ∷ came.at) → Before (came.happening ∷ came.at) at
+      by_place (inl earlier) = earlier
+      by_place (inr later) = by_newest later refl
+
   -- ## A look
 
   module _ (at : List Happening) (happening : Happening) (look : LookOf) (since : Before older at) (until : Before (happening ∷ at) all)
@@ -273,47 +309,24 @@ module _ (s : Settings) (t : Timing) (worlds : EveryJointHasAWorld s t) (one : E
         (host_after s image to at).clock (joint_after s image older).time (joint_after s image mid.at).time (joint_after s image at).time
         (from_runs older mid.at Itself mid.since (before_then mid.until until_at)).slow (to_runs mid.at at mid.since mid.until until_at).slow mid.close late)
 
-    said_before : Before hello.at at
-    said_before = before_then (before_tail hello.back) mid.until
-
-    said_until : Before (hello.happening ∷ hello.at) all
-    said_until = before_then hello.back (before_then mid.until until_at)
-
     comes_before : clock_at s image hello.at to + post < clock_at s image at to
     comes_before =
         let grows = to_grows hello.at mid.at hello.after (before_tail hello.back) (before_then mid.until until_at) in
         let early = mid.early in
         omega (arith, grows, early)
 
-    pub heard_it : IsHeardBy s image to (packet.Heard (rank_of from) hello.said hello.standing) (clock_at s image hello.at to + post) (hello.happening ∷ hello.at) all
-    heard_it =
-        near.come hello.at hello.happening (packet.Heard (rank_of from) hello.said hello.standing) hello.after said_until hello.says
-        (let grows = to_grows at all since until_at Itself in let before = comes_before in omega (arith, grows, before))
+    pub reached : Reached (packet.Heard (rank_of from) hello.said hello.standing) (clock_at s image hello.at to + post) (hello.happening ∷ hello.at) at
+    reached =
+        reaches (packet.Heard (rank_of from) hello.said hello.standing) hello.at hello.happening at hello.after (before_then hello.back mid.until) until_at hello.says comes_before
 
-    pub heard_since : Before older heard_it.at
+    abbrev pub heard_it : IsHeardBy s image to (packet.Heard (rank_of from) hello.said hello.standing) (clock_at s image hello.at to + post) (hello.happening ∷ hello.at) all
+    heard_it = reached.came
+
+    heard_since : Before older heard_it.at
     heard_since = before_then (Later hello.happening hello.after) heard_it.after
 
-    -- it was heard before the look
-    never : Before at heard_it.at → ⊥
-    never order =
-        let grows = to_grows at heard_it.at since order (before_tail heard_it.back) in
-        let soon = heard_it.soon in
-        let before = comes_before in
-        omega (arith, grows, soon, before)
-
-    by_newest : {h : List Happening} → Before at h → h ≡ heard_it.happening ∷ heard_it.at → Before (heard_it.happening ∷ heard_it.at) at
-    by_newest Itself is = subst (λ (h : List Happening). Before h at) is Itself
-    by_newest (Later more {new = earlier} up_to) is = absurd (never (subst (λ (h : List Happening). Before at h) (tail_of is) up_to))
-      where
-        tail_of : {a b : Happening} {first second : List Happening} → a ∷ first ≡ b ∷ second → first ≡ second
-        tail_of e = cc
-
-    pub heard_before : Before (heard_it.happening ∷ heard_it.at) at
-    heard_before = by_place (before_total heard_it.back until_at)
-      where
-        by_place : Before (heard_it.happening ∷ heard_it.at) at ⊎ Before at (heard_it.happening ∷ heard_it.at) → Before (heard_it.happening ∷ heard_it.at) at
-        by_place (inl earlier) = earlier
-        by_place (inr later) = by_newest later refl
+    heard_before : Before (heard_it.happening ∷ heard_it.at) at
+    heard_before = reached.before
 
     heard_tick : heard_it.look.tick ≡ clock_at s image heard_it.at to
     heard_tick = look_tick heard_it.happening heard_it.at heard_it.look heard_since heard_it.back heard_it.is

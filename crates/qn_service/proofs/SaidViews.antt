@@ -1,33 +1,33 @@
 -- A running node whose looks leave it announcing a view says that to each other one at each beat.
-use Rattle.std.proofs.Common.{◌≡◌, ◌⊎◌, inl, inr, ℕ, ◌+◌, ◌<◌, ◌≤◌, Bool, true, false, not, ◌&&◌, ◌==◌, List, ◌∷◌, ◌++◌, Option, None, Some, length, if◌then◌else◌, refl, sym, ◌∙◌, ap, subst, eq-eqb}
+use Rattle.std.proofs.Common.{◌≡◌, ℕ, ◌<◌, Bool, true, false, ◌==◌, List, ◌∷◌, ◌++◌, Option, None, Some, length, if◌then◌else◌, refl, sym, ◌∙◌, ap, subst}
 use Rattle.std.proofs.lemmas.Bool.{false≢true}
 use Rattle.qn_base.specs.declared.ids.View.{View}
 use Rattle.qn_model.specs.declared.configuration.Settings.{Settings}
 use Rattle.qn_model.specs.declared.packets.Packet.TheVariants as packet
 use Rattle.qn_model.specs.declared.packets.Sent.{Sent}
 use Rattle.qn_model.specs.declared.times.Timing.{Timing}
-use Rattle.qn_model.specs.Moments.{Before, Itself, Later}
+use Rattle.qn_model.specs.Moments.{Itself}
 use Rattle.qn_model.specs.Phases.{is_live, phase}
 use Rattle.qn_model.specs.Wanted.{rank_of}
 use Rattle.qn_member.specs.Announcing.{is_beat}
 use Rattle.qn_member.specs.Naming.{NamingMaker}
 use Rattle.qn_member.specs.NamingViews.{after_look, after_naming_hello_due, is_naming_hello_due, view_announced}
-use Rattle.qn_live.specs.Greetings.{announcements, greeting_packet, hello_of, hellos_where, others_from, to_each}
+use Rattle.qn_live.specs.Greetings.{announcements, greeting_packet, hello_of, others_from, to_each}
 use Rattle.qn_safety.specs.Earlier.{before_joined}
-use Rattle.qn_joined.specs.Joints.{Happening, Host, IsJoined, joint_after}
+use Rattle.qn_joined.specs.Joints.{Happening, Host, joint_after}
 use Rattle.qn_joined.specs.Moves.{EachIsOneEvent}
 use Rattle.qn_joined.specs.Stands.{Spot, log_at}
 use Rattle.qn_joined.specs.WorldOf.{EveryJointHasAWorld, HasWorld}
 use Rattle.qn_service.specs.Announced.{ViewsAreAnnounced}
-use Rattle.qn_service.specs.Hellos.{StaysAwake, beat_ticks}
-use Rattle.qn_service.specs.Looks.{LookOf, look_at, look_of}
+use Rattle.qn_service.specs.Hellos.{beat_ticks}
+use Rattle.qn_service.specs.Looks.{LookOf, look_of}
 use Rattle.qn_service.specs.NextLooks.{look_of_rank}
 use Rattle.qn_service.proofs.Beats.{HasSaid, Speech, greets_other, said_behind, speech_besides, speech_leads, speech_places}
 use Rattle.qn_service.proofs.ByTheImage.{HeadersReadBack}
 use Rattle.qn_service.proofs.JointClocks.{ClockLaws}
 use Rattle.qn_service.proofs.Made.{filtered}
 use Rattle.qn_service.proofs.NearHellos.{makers_loop, old_world}
-use Rattle.qn_service.proofs.RankSteps.{Anew, CallOf, Calls, Stands, StepTo, host_after, returned_spot, step_to}
+use Rattle.qn_service.proofs.RankSteps.{Anew, Calls, Stands, StepTo, host_after, returned_spot, step_to}
 use Rattle.qn_service.proofs.SaidHellos.{SaidLately, said_lately, some_loop}
 use Rattle.qn_service.proofs.Tracing.{Traced, traced}
 use Rattle.qn_service.proofs.TurnSteps.{KnownAt, any_maker, spot_looked}
@@ -74,7 +74,7 @@ view_speech s from to view under apart =
     }
 
 -- after a look that leaves it so
-speaks_after : (s : Settings) (image : ℕ → List ℕ) (from : ℕ) (speech : Speech s from) (first : Happening) (earlier : List Happening) (look : LookOf)
+pub speaks_after : (s : Settings) (image : ℕ → List ℕ) (from : ℕ) (speech : Speech s from) (first : Happening) (earlier : List Happening) (look : LookOf)
     → look_of_rank s image from first earlier ≡ Some look → speech.look look.tick look.maker
     → is_live (phase s (log_at (host_after s image from (first ∷ earlier)).stand.spot)) ≡ true
     → KnownAt (speech_places speech) (host_after s image from (first ∷ earlier)).stand.spot

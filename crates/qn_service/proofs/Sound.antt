@@ -36,11 +36,12 @@ pub record KeepsHeard (before after : Maker) : Type 0 where
   pub enough : after.enough ≡ before.enough
   pub hellos : after.hellos ≡ before.hellos
   pub said : after.said ≡ before.said
+  pub announced : after.announced ≡ before.announced
   pub last : after.last_hello ≡ before.last_hello
 
 installed_heard : (company : Mask) (found : Option View) (k : Maker) → KeepsHeard k (installed_beside company found k)
-installed_heard company None k = record { nodes = refl; own = refl; enough = refl; hellos = refl; said = refl; last = refl }
-installed_heard company (Some view) k = record { nodes = refl; own = refl; enough = refl; hellos = refl; said = refl; last = refl }
+installed_heard company None k = record { nodes = refl; own = refl; enough = refl; hellos = refl; said = refl; announced = refl; last = refl }
+installed_heard company (Some view) k = record { nodes = refl; own = refl; enough = refl; hellos = refl; said = refl; announced = refl; last = refl }
 
 found_heard : (tick : ℕ) (m : NamingMaker) → KeepsHeard m.maker (after_found tick m).maker
 unfolding after_found after_tick
@@ -60,12 +61,13 @@ found_heard tick m = by_own (is_own m knows_bit)
           enough = noted.enough ∙ ap (λ (k : Maker). k.enough) (looked_notes tick m);
           hellos = noted.hellos ∙ ap (λ (k : Maker). k.hellos) (looked_notes tick m);
           said = noted.said ∙ ap (λ (k : Maker). k.said) (looked_notes tick m);
+          announced = noted.announced ∙ ap (λ (k : Maker). k.announced) (looked_notes tick m);
           last = noted.last ∙ ap (λ (k : Maker). k.last_hello) (looked_notes tick m);
         }
     by_own false =
         subst (KeepsHeard m.maker) (sym plain_look)
         (let kept = installed_heard (company_at (looked tick m.maker)) (view_at tick m.maker) (looked tick m.maker) in
-        record { nodes = kept.nodes; own = kept.own; enough = kept.enough; hellos = kept.hellos; said = kept.said; last = kept.last })
+        record { nodes = kept.nodes; own = kept.own; enough = kept.enough; hellos = kept.hellos; said = kept.said; announced = kept.announced; last = kept.last })
 
 pub look_heard : (tick : ℕ) (m : NamingMaker) → KeepsHeard m.maker (after_look tick m).maker
 unfolding after_look
@@ -80,10 +82,11 @@ pub record KeepsBeat (before after : Maker) : Type 0 where
   pub enough : after.enough ≡ before.enough
   pub places : length after.hellos ≡ length before.hellos
   pub words : length after.said ≡ length before.said
+  pub views : length after.announced ≡ length before.announced
   pub last : after.last_hello ≡ before.last_hello
 
 beat_same : (k : Maker) → KeepsBeat k k
-beat_same k = record { nodes = refl; own = refl; enough = refl; places = refl; words = refl; last = refl }
+beat_same k = record { nodes = refl; own = refl; enough = refl; places = refl; words = refl; views = refl; last = refl }
 
 beat_then : {a b c : Maker} → KeepsBeat a b → KeepsBeat b c → KeepsBeat a c
 beat_then first second =
@@ -93,6 +96,7 @@ beat_then first second =
       enough = second.enough ∙ first.enough;
       places = second.places ∙ first.places;
       words = second.words ∙ first.words;
+      views = second.views ∙ first.views;
       last = second.last ∙ first.last;
     }
 
@@ -107,7 +111,7 @@ if_maker false one other k first second = second
 hello_beat : (tick from : ℕ) (said : Said) (k : Maker) → KeepsBeat k (after_hello tick from said k)
 hello_beat tick from said k =
     if_maker (is_configured k from) _ k k
-    (record { nodes = refl; own = refl; enough = refl; places = length-set k.hellos from (Some tick); words = length-set k.said from (Some (said_in k said)); last = refl })
+    (record { nodes = refl; own = refl; enough = refl; places = length-set k.hellos from (Some tick); words = length-set k.said from (Some (said_in k said)); views = refl; last = refl })
     (beat_same k)
 
 named_beat : (tick from : ℕ) (said : Said) (m : NamingMaker) → KeepsBeat m.maker (after_named_hello tick from said m).maker
@@ -124,7 +128,7 @@ announce_beat : (from : ℕ) (view : View) (m : NamingMaker) → KeepsBeat m.mak
 announce_beat from view m =
     let counts = is_configured m.maker from && has_configured m.maker.nodes view.members in
     let kept : KeepsBeat m.maker (after_announce from view m.maker) =
-    if_maker counts _ m.maker m.maker (record { nodes = refl; own = refl; enough = refl; places = hellos_places from view m.maker; words = refl; last = refl }) (beat_same m.maker) in
+    if_maker counts _ m.maker m.maker (record { nodes = refl; own = refl; enough = refl; places = hellos_places from view m.maker; words = refl; views = length-set m.maker.announced from (Some view); last = refl }) (beat_same m.maker) in
     if_beat counts _ _ m.maker kept kept
 
 said_places : (from flags : ℕ) (m : NamingMaker) → length (said_with m from flags) ≡ length m.maker.said
@@ -137,7 +141,7 @@ said_places from flags m = by_passed (is_passed_over m from flags)
 standing_beat : (from : ℕ) (standing : Standing) (m : NamingMaker) → KeepsBeat m.maker (after_standing from standing m).maker
 standing_beat from standing m =
     if_beat (is_other m from && has_bit standing.flags knows_bit) _ m m.maker
-    (record { nodes = refl; own = refl; enough = refl; places = refl; words = said_places from standing.flags m; last = refl }) (beat_same m.maker)
+    (record { nodes = refl; own = refl; enough = refl; places = refl; words = said_places from standing.flags m; views = refl; last = refl }) (beat_same m.maker)
 
 heard_beat : (tick : ℕ) (p : Option Packet) (m : NamingMaker) → KeepsBeat m.maker (heard tick p m).maker
 heard_beat tick None m = beat_same m.maker
@@ -161,7 +165,7 @@ pub looked_beat : (tick : ℕ) (own : Own) (p : Option Packet) (m : NamingMaker)
 looked_beat tick own p m =
     let kept = look_heard tick (told tick own p m) in
     beat_then (told_beat tick own p m)
-    (record { nodes = kept.nodes; own = kept.own; enough = kept.enough; places = ap length kept.hellos; words = ap length kept.said; last = kept.last })
+    (record { nodes = kept.nodes; own = kept.own; enough = kept.enough; places = ap length kept.hellos; words = ap length kept.said; views = ap length kept.announced; last = kept.last })
 
 -- ## Whether a Hello is due
 
@@ -211,6 +215,7 @@ pub record IsSound (s : Settings) (log : List Line) (m : NamingMaker) : Type 0 w
   pub enough : m.maker.enough ≡ enough_of s
   pub places : length m.maker.hellos ≡ 32
   pub words : length m.maker.said ≡ 32
+  pub views : length m.maker.announced ≡ 32
   pub said : (tick : ℕ) → m.maker.last_hello ≡ Some tick → tick ≤ now log
 
 abbrev pub sound_places : Settings → Places
@@ -233,13 +238,14 @@ module _ (s : Settings) (me : ℕ) where
         enough = kept.enough ∙ sound.enough;
         places = kept.places ∙ sound.places;
         words = kept.words ∙ sound.words;
+        views = kept.views ∙ sound.views;
         said = λ tick is. let was = sound.said tick (sym kept.last ∙ is) in omega (arith, was, order);
       }
 
   begun_sound : (log : List Line) (loop_ms : ℕ) (own : Own) → IsSound s log (maker_begun s me loop_ms own)
   begun_sound log loop_ms own =
       let kept = stand_beat own.said own.holds (first_naming s me loop_ms) in
-      record { nodes = kept.nodes; enough = kept.enough; places = kept.places; words = kept.words; said = λ tick is. absurd (none-some tick (sym kept.last ∙ is)) }
+      record { nodes = kept.nodes; enough = kept.enough; places = kept.places; words = kept.words; views = kept.views; said = λ tick is. absurd (none-some tick (sym kept.last ∙ is)) }
 
   due_sound : (log : List Line) (m : NamingMaker) → IsSound s log m → IsSound s log (after_naming_hello_due (now log) m)
   due_sound log m sound =
@@ -248,6 +254,7 @@ module _ (s : Settings) (me : ℕ) where
         enough = ap (λ (k : Maker). k.enough) same ∙ sound.enough;
         places = ap (λ (k : Maker). length k.hellos) same ∙ sound.places;
         words = ap (λ (k : Maker). length k.said) same ∙ sound.words;
+        views = ap (λ (k : Maker). length k.announced) same ∙ sound.views;
         said = λ tick is. by_beat tick is (due_last (now log) m);
       }
     where

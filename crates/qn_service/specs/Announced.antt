@@ -1,14 +1,15 @@
 -- What running nodes announce to one another, and what of that is known. This project's profile.
-use Rattle.std.specs.Prelude.{◌≡◌, ◌≤◌, ◌<◌, ◌+◌, ℕ, List, ◌∷◌, ◌++◌, length, Some}
+use Rattle.std.specs.Prelude.{◌≡◌, ◌≤◌, ◌<◌, ◌+◌, ◌*◌, ℕ, true, List, ◌∷◌, ◌++◌, length, Some}
 use Rattle.qn_base.specs.declared.ids.View.{View}
 use Rattle.qn_model.specs.declared.configuration.Settings.{Settings}
 use Rattle.qn_model.specs.declared.packets.Packet.TheVariants as packet
 use Rattle.qn_model.specs.declared.times.Timing.{Timing}
 use Rattle.qn_model.specs.Moments.{Before}
 use Rattle.qn_model.specs.Wanted.{rank_of}
+use Rattle.qn_member.specs.Maker.{has_configured, of_rank}
 use Rattle.qn_member.specs.NamingViews.{after_look, view_announced}
-use Rattle.qn_joined.specs.Joints.{Happening, IsJoined}
-use Rattle.qn_service.specs.Hellos.{Says, StaysAwake, beat_ticks}
+use Rattle.qn_joined.specs.Joints.{Happening, IsJoined, joint_after}
+use Rattle.qn_service.specs.Hellos.{IsNear, Says, StaysAwake, beat_ticks, hello_ticks, packet_to_hear}
 use Rattle.qn_service.specs.Looks.{LookOf}
 use Rattle.qn_service.specs.NextLooks.{look_of_rank}
 use Rattle.qn_service.specs.Serving.{clock_at}
@@ -45,3 +46,29 @@ ViewsAreAnnounced s t =
     → LooksAnnounce s image from view (first ∷ earlier) (newer ++ first ∷ earlier)
     → clock_at s image (first ∷ earlier) from + beat_ticks t turn < clock_at s image (newer ++ first ∷ earlier) from
     → SaidView s image from to (beat_ticks t turn) view (first ∷ earlier) (newer ++ first ∷ earlier)
+
+-- between two joints a rank hears no other announcement of another one than of this view
+abbrev pub HearsOneView : Settings → (ℕ → List ℕ) → ℕ → ℕ → View → List Happening → List Happening → Type 0
+HearsOneView s image from to view old new =
+    (at : List Happening) (other : View)
+    → Before old at → Before at new
+    → packet_to_hear s image to at ≡ Some (packet.Announce (rank_of from) other)
+    → other ≡ view
+
+-- So each look of one that is near knows it as what that node announced last, once it has come.
+abbrev pub LooksKnowViews : Settings → Timing → Type 0
+LooksKnowViews s t =
+    (image : ℕ → List ℕ) (turn post from to : ℕ) (view : View) (newer earlier : List Happening) (first : Happening) (seen : LookOf)
+    (at : List Happening) (happening : Happening) (look : LookOf)
+    → IsJoined s t image (newer ++ first ∷ earlier)
+    → IsNear s t image turn post from to (first ∷ earlier) (newer ++ first ∷ earlier)
+    → look_of_rank s image from first earlier ≡ Some seen
+    → view_announced (after_look seen.tick seen.maker) ≡ Some view
+    → LooksAnnounce s image from view (first ∷ earlier) (newer ++ first ∷ earlier)
+    → HearsOneView s image from to view (first ∷ earlier) (newer ++ first ∷ earlier)
+    → has_configured s.nodes view.members ≡ true
+    → Before (first ∷ earlier) at
+    → Before (happening ∷ at) (newer ++ first ∷ earlier)
+    → look_of_rank s image to happening at ≡ Some look
+    → 100 * hello_ticks t turn post + 99 * (joint_after s image (first ∷ earlier)).time ≤ 99 * (joint_after s image at).time
+    → of_rank look.maker.maker.announced from ≡ Some view

@@ -1,7 +1,7 @@
 //! The laws of what running nodes say and hear.
 ghost use Rattle.qn_model.specs.declared.configuration.Settings.{Settings};
 ghost use Rattle.qn_model.specs.declared.times.Timing.{Timing};
-ghost use Rattle.qn_service.specs.Announced.{ViewsAreAnnounced};
+ghost use Rattle.qn_service.specs.Announced.{LooksKnowViews, ViewsAreAnnounced};
 ghost use Rattle.qn_service.specs.Hellos.{HellosAreMet, HellosAreSaid, LooksFindSets, LooksHear, LooksKnowWords, LooksSee};
 
 /// Law: a node that is up and keeps its pace says a Hello to each other one at least each half loop and two turns.
@@ -71,6 +71,17 @@ pub fn law_looks_find_sets()
     qn_joined::law_worlds();
     qn_joined::law_each_is_one_event();
     law_looks_see();
+}
+
+/// Law: so each look of a node that is near one knows the view that it announces as what it announced last, while it hears no other one of it.
+pub fn law_looks_know_views()
+    ensures { (s : Settings) (t : Timing) → LooksKnowViews s t }
+{
+    qn_safety::law_any_runs_are_timed();
+    qn_safety::law_clocks();
+    qn_sector::law_read_back();
+    qn_joined::law_worlds();
+    qn_joined::law_each_is_one_event();
 }
 
 /// The premises of `law_looks_hear` are met, and so are those of `law_hellos_are_said`: in a joined run with safe times a node hears another one.
