@@ -1,5 +1,6 @@
 -- A look of a running node knows the view that one near it announces.
-use Rattle.std.proofs.Common.{◌≡◌, ℕ, ◌+◌, ◌*◌, ◌<◌, ◌≤◌, true, List, ◌∷◌, ◌++◌, Some, refl, sym, ◌∙◌, ap, subst, arith}
+use Rattle.std.proofs.Common.{◌≡◌, inr, ℕ, ◌+◌, ◌*◌, ◌<◌, ◌≤◌, Bool, true, false, ◌==◌, List, ◌∷◌, ◌++◌, Some, refl, sym, ◌∙◌, ap, subst, arith}
+use Rattle.std.proofs.lemmas.Bool.{eqb-true}
 use Rattle.std.proofs.lemmas.Option.{same_Some}
 use Rattle.qn_base.specs.declared.ids.View.{View}
 use Rattle.qn_io.specs.Answered.{time_of}
@@ -19,8 +20,9 @@ use Rattle.qn_joined.specs.Joints.{Happening, IsJoined, joint_after}
 use Rattle.qn_joined.specs.Moves.{EachIsOneEvent}
 use Rattle.qn_joined.specs.Stands.{Spot, log_at}
 use Rattle.qn_joined.specs.WorldOf.{EveryJointHasAWorld, HasWorld}
-use Rattle.qn_service.specs.Announced.{HearsOneView, LooksKnowViews}
+use Rattle.qn_service.specs.Announced.{FollowersKeep, HearsOneView, LooksKnowViews}
 use Rattle.qn_service.specs.Hellos.{IsHeardBy, IsNear, Says, beat_ticks, hello_ticks, packet_chosen, packet_waiting}
+use Rattle.qn_service.specs.KeptViews.{KeepsView}
 use Rattle.qn_service.specs.Looks.{LookOf, look_at}
 use Rattle.qn_service.specs.NextLooks.{look_of_rank}
 use Rattle.qn_service.specs.Serving.{clock_at}
@@ -28,8 +30,9 @@ use Rattle.qn_service.proofs.ByTheImage.{HeadersReadBack}
 use Rattle.qn_service.proofs.FreshHellos.{LookIs, look_is, sound_before}
 use Rattle.qn_service.proofs.JointClocks.{ClockLaws, ReturnOf}
 use Rattle.qn_service.proofs.KnownViews.{HasView, look_view, told_it, told_view, view_besides, view_leads, view_places}
+use Rattle.qn_service.proofs.LookRanks.{look_me}
 use Rattle.qn_service.proofs.NearHellos.{makers_loop, old_world}
-use Rattle.qn_service.proofs.NearLooks.{LastBefore, Reached, from_runs, late_enough, made_look, mid, reaches, to_grows, to_runs, to_step}
+use Rattle.qn_service.proofs.NearLooks.{LastBefore, Reached, from_runs, late_enough, later_time, made_look, mid, reaches, still_late, to_grows, to_runs, to_step}
 use Rattle.qn_service.proofs.RankSteps.{host_after, returned_spot}
 use Rattle.qn_service.proofs.SaidHellos.{SaidLately, said_lately, some_loop, up_leads}
 use Rattle.qn_service.proofs.SaidViews.{IsAnnouncement, speaks_after, view_speech}
@@ -142,14 +145,14 @@ module _ (s : Settings) (t : Timing) (worlds : EveryJointHasAWorld s t) (one : E
         (ap (λ (m : NamingMaker). of_rank m.maker.announced from) (same_Some last_is.before last_has.maker (sym last_is.had ∙ last_has.is)) ∙ last_has.knows)
 
 pub looks_know_views : (s : Settings) (t : Timing) → EveryJointHasAWorld s t → EachIsOneEvent s t → HeadersReadBack → ClockLaws → LooksKnowViews s t
-looks_know_views s t worlds one back laws image turn post from to view newer earlier first seen at happening look joined near found leaves looks same within since until is late =
-    look_knows s t worlds one back laws image turn post from to view newer (first ∷ earlier) joined near same within
-    (said_lately s t image turn from (first ∷ earlier) (newer ++ first ∷ earlier) has.events it.events laws it.trace joined.may near.sender
-    (makers_loop s t worlds back image newer (first ∷ earlier) joined turn from near.sender) (some_loop t joined.fits.times)
-    (view_speech s from to view near.configured.1 near.apart)
-    (speaks_after s image from (view_speech s from to view near.configured.1 near.apart) first earlier seen found leaves
-    (ap is_live (near.sender (first ∷ earlier) Itself (before_joined newer (first ∷ earlier))).is.up))
-    (λ j newest other since' until' found'. looks j newest other since' until' found'))
+looks_know_views s t worlds one back laws image turn post from to view newer earlier first at happening look joined tells since until is late =
+    look_knows s t worlds one back laws image turn post from to view newer (first ∷ earlier) joined tells.near tells.one tells.within
+    (said_lately s t image turn from (first ∷ earlier) (newer ++ first ∷ earlier) has.events it.events laws it.trace joined.may tells.near.sender
+    (makers_loop s t worlds back image newer (first ∷ earlier) joined turn from tells.near.sender) (some_loop t joined.fits.times)
+    (view_speech s from to view tells.near.configured.1 tells.near.apart)
+    (speaks_after s image from (view_speech s from to view tells.near.configured.1 tells.near.apart) first earlier tells.seen tells.is tells.leaves
+    (ap is_live (tells.near.sender (first ∷ earlier) Itself (before_joined newer (first ∷ earlier))).is.up))
+    (λ j newest other since' until' found'. tells.looks j newest other since' until' found'))
     at happening look since until is late
   where
     has : HasWorld s t (joint_after s image (first ∷ earlier))
@@ -157,3 +160,35 @@ looks_know_views s t worlds one back laws image turn post from to view newer ear
 
     it : Traced s t image (first ∷ earlier) has.events (newer ++ first ∷ earlier)
     it = traced s t one joined.fits image newer (first ∷ earlier) joined.may has
+
+-- ## A follower
+
+pub followers_keep : (s : Settings) (t : Timing) → EveryJointHasAWorld s t → EachIsOneEvent s t → HeadersReadBack → ClockLaws → LooksKnowViews s t → FollowersKeep s t
+followers_keep s t worlds one back laws know image turn post from to view newer earlier mid first joined tells since until late left led =
+    record { first = left; looks = keeps }
+  where
+    time_grows : (at : List Happening) → Before mid at → Before at (newer ++ first ∷ earlier) → (joint_after s image mid).time ≤ (joint_after s image at).time
+    time_grows at order within =
+        let run = to_runs s t worlds one back laws image turn post from to newer (first ∷ earlier) joined tells.near mid at since order within in
+        later_time (host_after s image to mid).clock (host_after s image to at).clock (joint_after s image mid).time (joint_after s image at).time run.fast run.grows
+
+    other : (look : LookOf) → look.maker.maker.me ≡ to → (from == look.maker.maker.me) ≡ false
+    other look own = by_same (from == look.maker.maker.me) refl
+      where
+        by_same : (b : Bool) → (from == look.maker.maker.me) ≡ b → (from == look.maker.maker.me) ≡ false
+        by_same false same = same
+        by_same true same = absurd (tells.near.apart (sym (eqb-true from look.maker.maker.me same ∙ own)))
+
+    keeps : (at : List Happening) (happening : Happening) (look : LookOf) → Before mid at → Before (happening ∷ at) (newer ++ first ∷ earlier)
+        → look_of_rank s image to happening at ≡ Some look → KeepsView from view look
+    keeps at happening look order back_at found =
+        record {
+          may = (led at happening look order back_at found).0;
+          keeps = inr (record {
+            leads = (led at happening look order back_at found).1;
+            other = other look (look_me s image to tells.near.configured.1 joined.fits.few happening at look found);
+            announced = know image turn post from to view newer earlier first at happening look joined tells (before_then since order) back_at found
+                (still_late (hello_ticks t turn post) (joint_after s image (first ∷ earlier)).time (joint_after s image mid).time (joint_after s image at).time
+                (time_grows at order (before_tail back_at)) late);
+          });
+        }

@@ -27,6 +27,7 @@ pub mod KnownViews
 pub mod Least
 pub mod LeftOut
 pub mod LogViews
+pub mod LookRanks
 pub mod Made
 pub mod NearHellos
 pub mod NearLooks

@@ -123,6 +123,12 @@ starts_before beat turn post to_old to_new time_old time_new slow late = omega (
 ticks_grow : (old new : ℕ) → old ≤ new → old / 100 ≤ new / 100
 ticks_grow old new grows = omega (arith, grows)
 
+pub later_time : (clock_old clock_new time_old time_new : ℕ) → clock_new + 101 * time_old ≤ 101 * time_new + clock_old → clock_old ≤ clock_new → time_old ≤ time_new
+later_time clock_old clock_new time_old time_new fast grows = omega (arith, fast, grows)
+
+pub still_late : (ticks time_first time_old time_new : ℕ) → time_old ≤ time_new → 100 * ticks + 99 * time_first ≤ 99 * time_old → 100 * ticks + 99 * time_first ≤ 99 * time_new
+still_late ticks time_first time_old time_new order late = omega (arith, order, late)
+
 -- ## One rank near another one
 
 module _ (s : Settings) (t : Timing) (worlds : EveryJointHasAWorld s t) (one : EachIsOneEvent s t) (back : HeadersReadBack) (laws : ClockLaws)

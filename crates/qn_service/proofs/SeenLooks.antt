@@ -31,12 +31,11 @@ use Rattle.qn_service.specs.Serving.{clock_at}
 use Rattle.qn_service.proofs.ByTheImage.{HeadersReadBack}
 use Rattle.qn_service.proofs.FreshHellos.{KnowsHello, LookIs, PlainSo, SaysSo, look_is, sound_before}
 use Rattle.qn_service.proofs.JointClocks.{ClockLaws, ClocksRun, ReturnOf}
-use Rattle.qn_service.proofs.LogViews.{always_shown}
-use Rattle.qn_service.proofs.NearLooks.{LastBefore, from_runs, from_step, heard_it, hears_by, hello, knows, look_hears, made_look, mid, to_runs}
+use Rattle.qn_service.proofs.LookRanks.{look_me}
+use Rattle.qn_service.proofs.NearLooks.{LastBefore, from_runs, from_step, heard_it, hears_by, hello, knows, later_time, look_hears, made_look, mid, still_late, to_runs}
 use Rattle.qn_service.proofs.RankSteps.{host_after, returned_spot}
 use Rattle.qn_service.proofs.SaidHellos.{look_made, up_leads}
 use Rattle.qn_service.proofs.SaidNames.{hello_words, look_names, saying_besides, saying_leads, saying_places}
-use Rattle.qn_service.proofs.Shown.{Chooses, ShownAt}
 use Rattle.qn_service.proofs.Sound.{IsSound, always_sound, told_beat}
 use Rattle.qn_service.proofs.TurnSteps.{KnownAt, any_maker, spot_looked}
 
@@ -50,12 +49,6 @@ looked_late ticks gaze from_old from_new time_first time_old time_new slow soon 
 gaze_passed : (ticks gaze from_old from_new time_old time_new : ℕ) → 99 * time_new + from_old ≤ from_new + 99 * time_old
     → 100 * (ticks + gaze + 2) + 99 * time_old ≤ 99 * time_new → from_old / 100 + gaze < from_new / 100
 gaze_passed ticks gaze from_old from_new time_old time_new slow late = omega (arith, slow, late)
-
-later_time : (clock_old clock_new time_old time_new : ℕ) → clock_new + 101 * time_old ≤ 101 * time_new + clock_old → clock_old ≤ clock_new → time_old ≤ time_new
-later_time clock_old clock_new time_old time_new fast grows = omega (arith, fast, grows)
-
-still_late : (ticks time_first time_old time_new : ℕ) → time_old ≤ time_new → 100 * ticks + 99 * time_first ≤ 99 * time_old → 100 * ticks + 99 * time_first ≤ 99 * time_new
-still_late ticks time_first time_old time_new order late = omega (arith, order, late)
 
 -- what was said so short a time before is late enough itself
 said_late : (ticks beat turn post gaze from_said from_mid to_mid to_new time_first time_said time_mid time_new : ℕ)
@@ -287,18 +280,7 @@ module _ (s : Settings) (t : Timing) (worlds : EveryJointHasAWorld s t) (one : E
     few = let under = sight.here.configured.1 in let nodes = joined.fits.few in omega (arith, under, nodes)
 
     me_is : look.maker.maker.me ≡ to
-    me_is =
-        ap (λ (m : NamingMaker). m.maker.me) is.told
-        ∙ (told_beat (time_of made.0.made) is.own (packet_chosen is.chosen.0) is.before).own ∙ (shown.turns.fine.maker is.before is.had).known.own
-      where
-        made : (r : ReturnOf s t image to happening at) × (look_at to (host_after s image to at).stand.spot r.made ≡ Some look)
-        made = made_look s t worlds one back laws image turn post from to newer older joined sight.here happening at look since until found
-
-        is : LookIs (host_after s image to at).stand.spot made.0.made look
-        is = look_is to (host_after s image to at).stand.spot made.0.made look made.1
-
-        shown : Chooses s to is.chosen
-        shown = subst (ShownAt s to) is.is (always_shown s image to sight.here.configured.1 joined.fits.few at)
+    me_is = look_me s image to sight.here.configured.1 joined.fits.few happening at look found
 
     pub look_sees : is_visible look.tick look.maker.maker from ≡ true
     look_sees =

@@ -1,7 +1,7 @@
 //! The laws of what running nodes say and hear.
 ghost use Rattle.qn_model.specs.declared.configuration.Settings.{Settings};
 ghost use Rattle.qn_model.specs.declared.times.Timing.{Timing};
-ghost use Rattle.qn_service.specs.Announced.{LooksKnowViews, ViewsAreAnnounced};
+ghost use Rattle.qn_service.specs.Announced.{FollowersKeep, LooksKnowViews, ViewsAreAnnounced};
 ghost use Rattle.qn_service.specs.Hellos.{HellosAreMet, HellosAreSaid, LooksFindSets, LooksHear, LooksKnowWords, LooksSee};
 
 /// Law: a node that is up and keeps its pace says a Hello to each other one at least each half loop and two turns.
@@ -82,6 +82,18 @@ pub fn law_looks_know_views()
     qn_sector::law_read_back();
     qn_joined::law_worlds();
     qn_joined::law_each_is_one_event();
+}
+
+/// Law: so a node that such a leader leads at each look keeps the view that it announces, once a look left it, with what `law_views_are_kept` asks.
+pub fn law_followers_keep()
+    ensures { (s : Settings) (t : Timing) → FollowersKeep s t }
+{
+    qn_safety::law_any_runs_are_timed();
+    qn_safety::law_clocks();
+    qn_sector::law_read_back();
+    qn_joined::law_worlds();
+    qn_joined::law_each_is_one_event();
+    law_looks_know_views();
 }
 
 /// The premises of `law_looks_hear` are met, and so are those of `law_hellos_are_said`: in a joined run with safe times a node hears another one.

@@ -26,8 +26,8 @@
 //! Who is heard and seen: a node that keeps its pace says its Hellos in time (`law_hellos_are_said`), each look of another one hears it where
 //! packets come in time (`law_looks_hear`), as in a run that is given (`law_hellos_are_met`), and sees it where each of the two hears the other
 //! (`law_looks_see`). What the looks of the one leave to be said is what the other knows of it (`law_looks_know_words`), and so is a view that
-//! it announces (`law_views_are_announced`, `law_looks_know_views`). So each look of a node of a set whose nodes stay in sight of one another
-//! sees just the set (`law_looks_find_sets`). Looks that see the same, and find the same of all, follow the same node
+//! it announces (`law_views_are_announced`, `law_looks_know_views`), which a node that it leads keeps (`law_followers_keep`). Each look of a
+//! node of a set whose nodes stay in sight of one another sees just the set (`law_looks_find_sets`). Looks that see the same, and find the same of all, follow the same node
 //! (`law_alike_looks_follow_one`).
 #![tactic(auto)]
 
@@ -38,8 +38,9 @@ mod owners;
 mod serving;
 
 pub use hellos::{
-    law_hellos_are_met, law_hellos_are_said, law_looks_find_sets, law_looks_hear,
-    law_looks_know_views, law_looks_know_words, law_looks_see, law_views_are_announced,
+    law_followers_keep, law_hellos_are_met, law_hellos_are_said, law_looks_find_sets,
+    law_looks_hear, law_looks_know_views, law_looks_know_words, law_looks_see,
+    law_views_are_announced,
 };
 pub use laws::{law_nobody_is_reset, law_reset_is_met, law_resets_the_unheard};
 pub use looks::{
