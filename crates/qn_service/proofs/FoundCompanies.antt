@@ -24,14 +24,14 @@ use Rattle.qn_joined.specs.Joints.{Happening, IsJoined, joint_after}
 use Rattle.qn_joined.specs.Moves.{EachIsOneEvent}
 use Rattle.qn_joined.specs.WorldOf.{EveryJointHasAWorld}
 use Rattle.qn_service.specs.Leaders.{CompaniesAreFound, FindsLeader, IsFollowing, LooksAgree, found_ticks}
-use Rattle.qn_service.specs.Hellos.{IsHeardBy, SaidHello, Says, StaysAwake, WasSaid, beat_ticks, hello_ticks}
+use Rattle.qn_service.specs.Hellos.{IsHeardBy, SaidHello, Says, StaysAwake, WasSaid, beat_ticks, hello_ticks, packet_to_hear}
 use Rattle.qn_service.specs.Leading.{company_then, leader_then, names_then}
 use Rattle.qn_service.specs.Looks.{LookOf, look_of}
 use Rattle.qn_service.specs.NextLooks.{look_of_rank}
 use Rattle.qn_service.specs.Serving.{clock_at}
 use Rattle.qn_service.proofs.ByTheImage.{HeadersReadBack}
 use Rattle.qn_service.proofs.Company.{after_look_is}
-use Rattle.qn_service.proofs.FreshHellos.{KnowsHello, KnowsWord}
+use Rattle.qn_service.proofs.FreshHellos.{KnowsWord, SaysSo}
 use Rattle.qn_service.proofs.JointClocks.{ClockLaws}
 use Rattle.qn_service.proofs.LogViews.{looks_know_names}
 use Rattle.qn_service.proofs.Made.{filtered, if_is, looked_notes, noted_then}
@@ -259,8 +259,8 @@ module _ (s : Settings) (t : Timing) (worlds : EveryJointHasAWorld s t) (one : E
       base_since : Before older (came.happening ∷ came.at)
       base_since = Later came.happening (before_then (Later last.happening last.after) came.after)
 
-      all_so : SaysSoFrom s t worlds one back laws image turn post rank leader newer older joined following.near (FollowsOnly leader) (came.happening ∷ came.at)
-      all_so h order back_h said standing comes =
+      hears_so : (h : List Happening) → Before (came.happening ∷ came.at) h → Before h all → SaysSo rank (FollowsOnly leader) (packet_to_hear s image leader h)
+      hears_so h order back_h said standing comes =
           says_so said standing own.happening own.at own.after (before_then own.back back_h) own.says
           (ticks_before (gaze + 2) post (host_after s image leader own.at).clock (host_after s image leader h).clock (joint_after s image older).time
           (joint_after s image own.at).time (joint_after s image h).time
@@ -276,10 +276,13 @@ module _ (s : Settings) (t : Timing) (worlds : EveryJointHasAWorld s t) (one : E
               (time_grows s t worlds one back laws image turn leader newer older joined following.near.hearer last.at h last.after
               (before_then (before_tail came.after) (before_tail order)) back_h) late_said
 
+      all_so : SaysSoFrom s t worlds one back laws image turn post rank leader newer older joined following.near (FollowsOnly leader) (came.happening ∷ came.at)
+      all_so h order back_h = (hears_so h order back_h, λ comes. tt)
+
       pub word_is : KnowsWord rank (FollowsOnly leader) look.maker.maker.said
       word_is =
-          (knows s t worlds one back laws image turn post rank leader newer older joined following.near at happening look since until found late_first (FollowsOnly leader) tt
-          (λ none. tt) last_so all_so).word
+          (knows s t worlds one back laws image turn post rank leader newer older joined following.near at happening look since until found late_first (FollowsOnly leader)
+          (λ none. (tt, tt)) last_so all_so).word
 
     -- and so it finds all of them
     pub company_found : (leader < length s.nodes) → StaysAwake s image turn leader older all → is_member set leader ≡ true → company_then look.tick look.maker ≡ set

@@ -1,5 +1,5 @@
 -- A look of a running node finds the set whose nodes stay together.
-use Rattle.std.proofs.Common.{◌≡◌, ◌⊎◌, inl, inr, ℕ, ◌+◌, ◌*◌, ◌/◌, ◌<◌, ◌≤◌, Bool, true, false, not, ◌&&◌, ◌||◌, ◌==◌, List, ◌∷◌, ◌++◌, Option, None, Some, length, max, refl, sym, ◌∙◌, ap, subst, arith}
+use Rattle.std.proofs.Common.{◌≡◌, ◌⊎◌, inl, inr, ℕ, ◌+◌, ◌*◌, ◌/◌, ◌<◌, ◌≤◌, Bool, true, false, ◌&&◌, ◌||◌, ◌==◌, List, ◌∷◌, ◌++◌, Option, None, Some, length, refl, sym, ◌∙◌, ap, subst, arith}
 use Rattle.std.specs.Prelude.{nat_le}
 use Rattle.std.specs.Option.{option_map_or}
 use Rattle.std.proofs.Math.Nat.{le-max_left, le-max_right}
@@ -13,7 +13,7 @@ use Rattle.qn_model.specs.Log.{now}
 use Rattle.qn_model.specs.Moments.{Before, Itself, Later}
 use Rattle.qn_member.specs.Maker.{Maker, is_visible, names, of_rank}
 use Rattle.qn_member.specs.Naming.{NamingMaker}
-use Rattle.qn_safety.specs.Earlier.{before_joined, before_tail, before_then}
+use Rattle.qn_safety.specs.Earlier.{before_tail}
 use Rattle.qn_joined.specs.Joints.{Happening, IsJoined, joint_after}
 use Rattle.qn_joined.specs.Moves.{EachIsOneEvent}
 use Rattle.qn_joined.specs.Stands.{Acting, Ended, Looking, Parting, Polling, Receiving, Saying, Spot, log_at}
@@ -25,17 +25,15 @@ use Rattle.qn_service.specs.NextLooks.{look_of_rank}
 use Rattle.qn_service.specs.Serving.{clock_at}
 use Rattle.qn_service.proofs.ByTheImage.{HeadersReadBack}
 use Rattle.qn_service.proofs.FreshHellos.{LookIs, look_is}
-use Rattle.qn_service.proofs.JointClocks.{ClockLaws, ClocksRun, ReturnOf, UpStep, clocks_run, read_at, up_step}
+use Rattle.qn_service.proofs.JointClocks.{ClockLaws, ReturnOf, UpStep, clocks_run, read_at, up_step}
 use Rattle.qn_service.proofs.KeptLoops.{loop_of, told_keeps}
-use Rattle.qn_service.proofs.LogViews.{always_shown}
+use Rattle.qn_service.proofs.LookRanks.{look_me}
 use Rattle.qn_service.proofs.NearHellos.{makers_loop, old_world}
 use Rattle.qn_service.proofs.OldHellos.{HeardBy, always_past, old_besides, old_leads, old_places, past_places, told_old}
 use Rattle.qn_service.proofs.RankSteps.{host_after}
 use Rattle.qn_service.proofs.SaidHellos.{look_made, up_leads}
-use Rattle.qn_service.proofs.Shown.{Chooses, ShownAt}
-use Rattle.qn_service.proofs.Sound.{told_beat}
 use Rattle.qn_service.proofs.Tracing.{Traced, traced}
-use Rattle.qn_service.proofs.TurnSteps.{KnownAt, MakerAt, MakerIs, any_maker}
+use Rattle.qn_service.proofs.TurnSteps.{KnownAt, MakerAt, any_maker}
 
 -- what is known of the past is known of a tick that the log is not after
 past_old : (from limit : ℕ) (spot : Spot) → now (log_at spot) ≤ limit → KnownAt (past_places from) spot → KnownAt (old_places from limit) spot
@@ -105,12 +103,7 @@ module _ (s : Settings) (t : Timing) (worlds : EveryJointHasAWorld s t) (one : E
     is = look_is rank (host_after s image rank at).stand.spot made.0.made look made.1
 
     me_is : look.maker.maker.me ≡ rank
-    me_is =
-        ap (λ (m : NamingMaker). m.maker.me) is.told
-        ∙ (told_beat (time_of made.0.made) is.own (packet_chosen is.chosen.0) is.before).own ∙ (shown.turns.fine.maker is.before is.had).known.own
-      where
-        shown : Chooses s rank is.chosen
-        shown = subst (ShownAt s rank) is.is (always_shown s image rank (together.configured rank member) joined.fits.few at)
+    me_is = look_me s image rank (together.configured rank member) joined.fits.few happening at look found
 
     loop_is : look.maker.maker.loop_ms ≡ t.loop_ms
     loop_is =

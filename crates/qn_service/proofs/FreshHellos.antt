@@ -1,5 +1,5 @@
 -- A Hello that a look heard counts at each later look of a node that is up, while no farewell comes.
-use Rattle.std.proofs.Common.{◌≡◌, ◌⊎◌, inl, inr, ℕ, suc, zero, ◌+◌, ◌*◌, ◌<◌, ◌≤◌, Bool, true, false, not, ◌&&◌, ◌==◌, List, [], ◌∷◌, Option, None, Some, length, if◌then◌else◌, refl, sym, ◌∙◌, ap, subst, arith}
+use Rattle.std.proofs.Common.{◌≡◌, ◌⊎◌, inl, inr, ℕ, suc, zero, ◌<◌, ◌≤◌, Bool, true, false, not, ◌&&◌, ◌==◌, List, [], ◌∷◌, Option, None, Some, length, if◌then◌else◌, refl, sym, ◌∙◌, ap, subst, arith}
 use Rattle.std.specs.Prelude.{nat_lt, option_map, slice_index_or, slice_set}
 use Rattle.std.proofs.lemmas.Bool.{and_parts, cases_eq, false≢true, lt-ltb}
 use Rattle.std.proofs.lemmas.List.{get_or-set_same}
@@ -48,11 +48,11 @@ pub record KnowsWord (from : ℕ) (P : Said → Type 0) (words : List (Option Sa
   pub is : of_rank words from ≡ Some said
   pub so : P said
 
--- and where each Hello counts as a plain one, one that names nobody says it too
+-- and where each Hello counts as a plain one, such a one says it, and one that names nobody
 pub record KnowsHello (from since : ℕ) (P : Said → Type 0) (k : Maker) : Type 0 where
   pub hello : KnowsTick from since k.hellos
   pub word : KnowsWord from P k.said
-  pub counts : (k.enough == 0) ≡ true → P names_nobody
+  pub counts : (k.enough == 0) ≡ true → P names_nobody × P plain
 
 -- what comes is no farewell of a rank, and a Hello of it says what is so
 abbrev pub NoFarewell : ℕ → Option Packet → Type 0
@@ -60,6 +60,9 @@ NoFarewell from p = (view : View) → p ≡ Some (packet.Announce (rank_of from)
 
 abbrev pub SaysSo : ℕ → (Said → Type 0) → Option Packet → Type 0
 SaysSo from P p = (said : Said) (standing : Standing) → p ≡ Some (packet.Heard (rank_of from) said standing) → P said
+
+abbrev pub PlainSo : ℕ → (Said → Type 0) → Option Packet → Type 0
+PlainSo from P p = p ≡ Some (packet.Hello (rank_of from)) → P plain
 
 pub set_or_same : {A : Type 0} (items : List (Option A)) (i j : ℕ) (a : A)
     → (of_rank (slice_set items i (Some a)) j ≡ Some a) ⊎ (of_rank (slice_set items i (Some a)) j ≡ of_rank items j)
@@ -76,7 +79,7 @@ set_other (y ∷ items) zero (suc j) x apart = refl
 set_other (y ∷ items) (suc i) zero x apart = refl
 set_other (y ∷ items) (suc i) (suc j) x apart = set_other items i j x (λ same. apart (ap suc same))
 
-module _ (from since : ℕ) (P : Said → Type 0) (plain_so : P plain) where
+module _ (from since : ℕ) (P : Said → Type 0) where
   abbrev Has : Maker → Type 0
   Has k = KnowsHello from since P k
 
@@ -116,19 +119,19 @@ module _ (from since : ℕ) (P : Said → Type 0) (plain_so : P plain) where
 
   -- ## What comes
 
-  said_so : (k : Maker) (said : Said) → P said → P (said_in k said)
-  said_so k said so = by_two (k.enough == 0)
+  said_so : (k : Maker) (said : Said) → ((k.enough == 0) ≡ true → P names_nobody × P plain) → P said → P (said_in k said)
+  said_so k said counts so = by_two (k.enough == 0) refl
     where
-      by_two : (b : Bool) → P (if b then plain else said)
-      by_two true = plain_so
-      by_two false = so
+      by_two : (b : Bool) → (k.enough == 0) ≡ b → P (if b then plain else said)
+      by_two true none = (counts none).1
+      by_two false some = so
 
   hello_known : (tick place : ℕ) (said : Said) (k : Maker) → since ≤ tick → (place ≡ from → P said) → Has k → Has (after_hello tick place said k)
   hello_known tick place said k late so known =
       if_known (is_configured k place) _ k
       (record {
         hello = set_tick k.hellos place tick late known.hello;
-        word = set_word k.said place (said_in k said) (λ same. said_so k said (so same)) known.word;
+        word = set_word k.said place (said_in k said) (λ same. said_so k said known.counts (so same)) known.word;
         counts = known.counts;
       })
       known
@@ -148,7 +151,7 @@ module _ (from since : ℕ) (P : Said → Type 0) (plain_so : P plain) where
   word_with place flags m known = by_passed (is_passed_over m place flags) refl
     where
       by_passed : (b : Bool) → is_passed_over m place flags ≡ b → KnowsWord from P (if b then slice_set m.maker.said place (Some names_nobody) else m.maker.said)
-      by_passed true passed = set_word m.maker.said place names_nobody (λ same. known.counts (passed_counts m place flags passed)) known.word
+      by_passed true passed = set_word m.maker.said place names_nobody (λ same. (known.counts (passed_counts m place flags passed)).0) known.word
       by_passed false counts = known.word
 
   standing_known : (place : ℕ) (standing : Standing) (m : NamingMaker) → Has m.maker → Has (after_standing place standing m).maker
@@ -174,25 +177,26 @@ module _ (from since : ℕ) (P : Said → Type 0) (plain_so : P plain) where
       if_known counts _ m.maker (record { hello = parted_known place view m.maker stays known; word = known.word; counts = known.counts }) known in
       if_named counts _ _ kept kept
 
-  heard_known : (tick : ℕ) (p : Option Packet) (m : NamingMaker) → since ≤ tick → NoFarewell from p → SaysSo from P p → Has m.maker → Has (heard tick p m).maker
-  heard_known tick None m late stays so known = known
-  heard_known tick (Some (packet.Hello place)) m late stays so known =
-      if_named (is_configured m.maker place.0 && not (says_more tick m.maker place.0)) _ m (named_known tick place.0 plain m late (λ same. plain_so) known) known
-  heard_known tick (Some (packet.Heard place said standing)) m late stays so known =
+  heard_known : (tick : ℕ) (p : Option Packet) (m : NamingMaker) → since ≤ tick → NoFarewell from p → SaysSo from P p → PlainSo from P p → Has m.maker → Has (heard tick p m).maker
+  heard_known tick None m late stays so plainly known = known
+  heard_known tick (Some (packet.Hello place)) m late stays so plainly known =
+      if_named (is_configured m.maker place.0 && not (says_more tick m.maker place.0)) _ m (named_known tick place.0 plain m late (λ same. plainly (ap (λ r. Some (packet.Hello (record { 0 = r }))) same)) known) known
+  heard_known tick (Some (packet.Heard place said standing)) m late stays so plainly known =
       standing_known place.0 standing (after_named_hello tick place.0 said m)
       (named_known tick place.0 said m late (λ same. so said standing (ap (λ r. Some (packet.Heard (record { 0 = r }) said standing)) same)) known)
-  heard_known tick (Some (packet.Announce place view)) m late stays so known =
+  heard_known tick (Some (packet.Announce place view)) m late stays so plainly known =
       announce_known place.0 view m
       (λ same. subst (λ r. is_member view.members r ≡ true) (sym same) (stays view (ap (λ r. Some (packet.Announce (record { 0 = r }) view)) same))) known
-  heard_known tick (Some (packet.Ask ask)) m late stays so known = known
-  heard_known tick (Some (packet.Tell tell)) m late stays so known = known
-  heard_known tick (Some (packet.Vote agrees)) m late stays so known = known
+  heard_known tick (Some (packet.Ask ask)) m late stays so plainly known = known
+  heard_known tick (Some (packet.Tell tell)) m late stays so plainly known = known
+  heard_known tick (Some (packet.Vote agrees)) m late stays so plainly known = known
 
   stand_known : (standing : Standing) (holds : Bool) (m : NamingMaker) → Has m.maker → Has (after_stand standing holds m).maker
   stand_known standing holds m known = if_named (is_configured m.maker m.maker.me) _ m known known
 
-  pub told_fresh : (tick : ℕ) (own : Own) (p : Option Packet) (m : NamingMaker) → since ≤ tick → NoFarewell from p → SaysSo from P p → Has m.maker → Has (told tick own p m).maker
-  told_fresh tick own p m late stays so known = stand_known own.said own.holds (heard tick p m) (heard_known tick p m late stays so known)
+  pub told_fresh : (tick : ℕ) (own : Own) (p : Option Packet) (m : NamingMaker) → since ≤ tick → NoFarewell from p → SaysSo from P p → PlainSo from P p → Has m.maker
+      → Has (told tick own p m).maker
+  told_fresh tick own p m late stays so plainly known = stand_known own.said own.holds (heard tick p m) (heard_known tick p m late stays so plainly known)
 
   look_fresh : (tick : ℕ) (m : NamingMaker) → Has m.maker → Has (after_look tick m).maker
   look_fresh tick m known =
@@ -208,8 +212,8 @@ module _ (from since : ℕ) (P : Said → Type 0) (plain_so : P plain) where
       if_named (is_naming_hello_due tick m) _ m (record { hello = known.hello; word = known.word; counts = known.counts }) known
 
 -- a Hello that comes is known from then on
-module _ (s : Settings) (from : ℕ) (P : Said → Type 0) (plain_so : P plain) (under : from < length s.nodes) (few : length s.nodes ≤ 32)
-    (two : (enough_of s == 0) ≡ true → P names_nobody) where
+module _ (s : Settings) (from : ℕ) (P : Said → Type 0) (under : from < length s.nodes) (few : length s.nodes ≤ 32)
+    (two : (enough_of s == 0) ≡ true → P names_nobody × P plain) where
   if_true : (tick : ℕ) (b : Bool) (one other : Maker) → b ≡ true → KnowsHello from tick P one → KnowsHello from tick P (if b then one else other)
   if_true tick true one other is known = known
   if_true tick false one other is known = absurd (false≢true is)
@@ -217,8 +221,8 @@ module _ (s : Settings) (from : ℕ) (P : Said → Type 0) (plain_so : P plain) 
   told_now : (log : List Line) (tick : ℕ) (own : Own) (said : Said) (standing : Standing) (m : NamingMaker) → IsSound s log m → P said
       → KnowsHello from tick P (told tick own (Some (packet.Heard (rank_of from) said standing)) m).maker
   told_now log tick own said standing m sound so =
-      stand_known from tick P plain_so own.said own.holds (heard tick (Some (packet.Heard (rank_of from) said standing)) m)
-      (standing_known from tick P plain_so from standing (after_named_hello tick from said m) (if_named from tick P plain_so (is_other m from) _ _ hello hello))
+      stand_known from tick P own.said own.holds (heard tick (Some (packet.Heard (rank_of from) said standing)) m)
+      (standing_known from tick P from standing (after_named_hello tick from said m) (if_named from tick P (is_other m from) _ _ hello hello))
     where
       configured : is_configured m.maker from ≡ true
       configured = lt-ltb from (length m.maker.nodes) (subst (λ (list : List NodeEntry). from < length list) (sym sound.nodes) under)
@@ -237,7 +241,7 @@ module _ (s : Settings) (from : ℕ) (P : Said → Type 0) (plain_so : P plain) 
             word = record {
               said = said_in m.maker said;
               is = get_or-set_same m.maker.said from (Some (said_in m.maker said)) None there_said;
-              so = said_so from tick P plain_so m.maker said so;
+              so = said_so from tick P m.maker said (λ none. two (ap (λ n. n == 0) (sym sound.enough) ∙ none)) so;
             };
             counts = λ none. two (ap (λ n. n == 0) (sym sound.enough) ∙ none);
           })
@@ -264,14 +268,14 @@ fresh_places from since P =
 abbrev pub fresh_besides : Settings → ℕ → (Said → Type 0) → Besides
 fresh_besides s from P =
     record {
-      clock = λ log tick p. NoFarewell from p × SaysSo from P p;
+      clock = λ log tick p. NoFarewell from p × SaysSo from P p × PlainSo from P p;
       look = λ tick m. Unit {0};
       sent = λ sent log. Unit {0};
       log = λ log. is_live (phase s log) ≡ true;
       maker = λ m. Unit {0};
     }
 
-module _ (s : Settings) (me from since : ℕ) (P : Said → Type 0) (plain_so : P plain) where
+module _ (s : Settings) (me from since : ℕ) (P : Said → Type 0) where
   left_fresh : (log : List Line) (live : Bool) (begun : NamingMaker) (had : Option NamingMaker) → live ≡ true → HasFresh from since P log had
       → HasFresh from since P log (option_map (after_naming_hello_due (now log)) (maker_where live begun had))
   left_fresh log false begun had live fresh = absurd (false≢true live)
@@ -280,17 +284,17 @@ module _ (s : Settings) (me from since : ℕ) (P : Said → Type 0) (plain_so : 
       record {
         maker = after_naming_hello_due (now log) m;
         is = refl;
-        knows = due_fresh from since P plain_so (now log) m
+        knows = due_fresh from since P (now log) m
             (subst (λ (k : NamingMaker). KnowsHello from since P k.maker) (sym (same_Some m fresh.maker fresh.is)) fresh.knows);
         order = fresh.order;
       }
 
-  looked_fresh : (log : List Line) (m : NamingMaker) (tick : ℕ) (own : Own) (p : Option Packet) → NoFarewell from p → SaysSo from P p → now log ≤ tick
+  looked_fresh : (log : List Line) (m : NamingMaker) (tick : ℕ) (own : Own) (p : Option Packet) → NoFarewell from p → SaysSo from P p → PlainSo from P p → now log ≤ tick
       → HasFresh from since P log (Some m) → KnowsHello from since P (after_look tick (told tick own p m)).maker
-  looked_fresh log m tick own p stays so order fresh =
+  looked_fresh log m tick own p stays so plainly order fresh =
       let before = fresh.order in
-      look_fresh from since P plain_so tick (told tick own p m)
-      (told_fresh from since P plain_so tick own p m (omega (arith, before, order)) stays so
+      look_fresh from since P tick (told tick own p m)
+      (told_fresh from since P tick own p m (omega (arith, before, order)) stays so plainly
       (subst (λ (k : NamingMaker). KnowsHello from since P k.maker) (sym (same_Some m fresh.maker fresh.is)) fresh.knows))
 
   pub fresh_leads : StepsLead s me (fresh_besides s from P) (fresh_places from since P) (fresh_places from since P)
@@ -305,7 +309,7 @@ module _ (s : Settings) (me from since : ℕ) (P : Said → Type 0) (plain_so : 
             record {
               maker = after_look tick (told tick own p m);
               is = refl;
-              knows = looked_fresh log m tick own p clock.0 clock.1 order known;
+              knows = looked_fresh log m tick own p clock.0 clock.1 clock.2 order known;
               order = omega (arith, before, order);
             };
         kept = λ m tick own p known. tt;
@@ -378,15 +382,15 @@ pub sound_before : (s : Settings) (spot : Spot) (made : Call) (look : LookOf) �
 sound_before s spot made look is sound = subst (KnownAt (sound_places s)) is.is sound is.before is.had
 
 -- a look that hears a Hello of a rank leaves one that is known
-module _ (s : Settings) (me from : ℕ) (P : Said → Type 0) (plain_so : P plain) (under : from < length s.nodes) (few : length s.nodes ≤ 32)
-    (two : (enough_of s == 0) ≡ true → P names_nobody) (said : Said) (standing : Standing) (so : P said) (look : LookOf) where
+module _ (s : Settings) (me from : ℕ) (P : Said → Type 0) (under : from < length s.nodes) (few : length s.nodes ≤ 32)
+    (two : (enough_of s == 0) ≡ true → P names_nobody × P plain) (said : Said) (standing : Standing) (so : P said) (look : LookOf) where
   look_knows : (spot : Spot) (made : Call) → look_at me spot made ≡ Some look → packet_waiting spot ≡ Some (packet.Heard (rank_of from) said standing) → KnownAt (sound_places s) spot
       → KnowsHello from look.tick P look.maker.maker
   look_knows spot made found hears sound =
       subst (λ (m : NamingMaker). KnowsHello from look.tick P m.maker) (sym is.told)
       (subst (λ tick. KnowsHello from tick P (told (time_of made) is.own (packet_chosen is.chosen.0) is.before).maker) (sym is.tick)
       (subst (λ p. KnowsHello from (time_of made) P (told (time_of made) is.own p is.before).maker) (sym here)
-      (told_now s from P plain_so under few two is.chosen.1.log (time_of made) is.own said standing is.before (sound_before s spot made look is sound) so)))
+      (told_now s from P under few two is.chosen.1.log (time_of made) is.own said standing is.before (sound_before s spot made look is sound) so)))
     where
       is : LookIs spot made look
       is = look_is me spot made look found
@@ -400,11 +404,11 @@ module _ (s : Settings) (me from : ℕ) (P : Said → Type 0) (plain_so : P plai
       → KnownAt (fresh_places from look.tick P) (after_spot s me leave turn more spot made).spot
   unfolding with_entry
   spot_hears leave turn more spot made found hears sound live =
-      spot_looked s me (fresh_besides s from P) (fresh_places from look.tick P) (fresh_places from look.tick P) (fresh_leads s me from look.tick P plain_so) look leave turn more spot made found
+      spot_looked s me (fresh_besides s from P) (fresh_places from look.tick P) (fresh_places from look.tick P) (fresh_leads s me from look.tick P) look leave turn more spot made found
       (any_maker spot) live
       (λ log entry. record {
         maker = after_look look.tick look.maker;
         is = refl;
-        knows = look_fresh from look.tick P plain_so look.tick look.maker (look_knows spot made found hears sound);
+        knows = look_fresh from look.tick P look.tick look.maker (look_knows spot made found hears sound);
         order = omega arith;
       })

@@ -1,14 +1,10 @@
 -- A joined run in which each look of a node hears the other one: the premises of what nodes say and hear are met.
-use Rattle.std.proofs.Common.{◌≡◌, ◌<◌, ◌≤◌, ℕ, Bool, true, false, not, ◌&&◌, ◌==◌, ◌+◌, ◌*◌, List, [], ◌∷◌, ◌++◌, Option, None, Some, is_some, refl, sym, ◌∙◌, ap, subst, arith}
+use Rattle.std.proofs.Common.{◌≡◌, ◌≤◌, ℕ, Bool, true, false, not, ◌&&◌, ◌==◌, ◌+◌, ◌*◌, List, [], ◌∷◌, Option, None, Some, is_some, refl, sym, ◌∙◌, ap, arith}
 use Rattle.std.specs.Prelude.{nat_le, option_map}
 use Rattle.std.specs.Option.{option_map_or}
-use Rattle.std.proofs.lemmas.Bool.{and_parts, eq-eqb, false≢true, leb-true, true≢false}
-use Rattle.std.proofs.lemmas.Option.{none-some, same_Some}
+use Rattle.std.proofs.lemmas.Bool.{and_parts, false≢true, leb-true, true≢false}
 use Rattle.qn_base.specs.declared.calls.Call.TheVariants as call
 use Rattle.qn_base.specs.declared.calls.Received.TheVariants as received
-use Rattle.qn_base.specs.declared.ids.Said.{Said}
-use Rattle.qn_base.specs.declared.ids.View.{View}
-use Rattle.qn_base.specs.Members.{is_member}
 use Rattle.qn_model.specs.declared.disk.Message.TheVariants as message
 use Rattle.qn_model.specs.declared.life.Phase.{Phase}
 use Rattle.qn_model.specs.declared.life.Phase.TheVariants.{Booting, Up, Leaving, Dying, Gone}
@@ -25,7 +21,7 @@ use Rattle.qn_wire.specs.Packets.{packet_bytes}
 use Rattle.qn_wire.specs.Reading.{packet_of}
 use Rattle.qn_joined.specs.Joints.{Happening, Host, Lands, Passes, Returns, joint_after}
 use Rattle.qn_joined.specs.Stands.{log_at}
-use Rattle.qn_service.specs.Hellos.{HellosAreMet, IsAwake, IsHeardBy, IsNear, Says, packet_to_hear, packet_waiting, said_in}
+use Rattle.qn_service.specs.Hellos.{HellosAreMet, IsAwake, IsHeardBy, IsNear, Says, packet_to_hear, said_in}
 use Rattle.qn_service.specs.Looks.{LookOf}
 use Rattle.qn_service.specs.NextLooks.{look_of_rank}
 use Rattle.qn_service.specs.Serving.{clock_at}

@@ -1,5 +1,5 @@
 -- From joint to joint: the clock of a node that is up runs beside true time, and each of its calls is one that may return.
-use Rattle.std.proofs.Common.{◌≡◌, ◌⊎◌, inl, inr, ℕ, ◌+◌, ◌*◌, ◌<◌, ◌≤◌, Bool, true, false, List, [], ◌∷◌, Option, Some, length, refl, sym, ◌∙◌, ap, subst, arith}
+use Rattle.std.proofs.Common.{◌≡◌, ◌⊎◌, inl, inr, ℕ, ◌+◌, ◌*◌, ◌<◌, ◌≤◌, true, List, [], ◌∷◌, Some, length, sym, ◌∙◌, ap, subst, arith}
 use Rattle.std.proofs.lemmas.Bool.{cases_lt, false≢true}
 use Rattle.qn_base.specs.declared.calls.Call.{Call}
 use Rattle.qn_base.specs.declared.calls.Call.TheVariants as call
@@ -21,9 +21,8 @@ use Rattle.qn_safety.specs.Timed.{IsTimedRun}
 use Rattle.qn_live.specs.declared.place.Choice.{Choice}
 use Rattle.qn_live.specs.Running.{RunState}
 use Rattle.qn_joined.specs.Joints.{AllMayHappen, Happening, Host, Looks, MayAnswer, MayHappen, Returns, joint_after, returned, waits_for}
-use Rattle.qn_joined.specs.Stands.{Looking, Spot, Stand, left_plan, log_at}
+use Rattle.qn_joined.specs.Stands.{Looking, Spot, left_plan, log_at}
 use Rattle.qn_joined.specs.WorldOf.{IsWorld}
-use Rattle.qn_service.specs.Between.{IsOfJoint}
 use Rattle.qn_service.specs.KeptViews.{IsUpAt}
 use Rattle.qn_service.specs.Looks.{look_at, look_of}
 use Rattle.qn_service.specs.Serving.{clock_at}

@@ -1,3 +1,4 @@
+pub mod Agreeing
 pub mod AnnouncedViews
 pub mod Announcing
 pub mod Beats
@@ -27,6 +28,8 @@ pub mod KeptLoops
 mod KeptRows
 pub mod KeptViews
 pub mod Knowing
+pub mod KnownLooks
+pub mod KnownViews
 pub mod LastLooks
 pub mod LeaderSays
 pub mod Least
@@ -35,6 +38,7 @@ pub mod LedLooks
 pub mod LedNodes
 pub mod LeftOut
 pub mod LogViews
+pub mod LookRanks
 pub mod Made
 pub mod NearHellos
 pub mod NearLooks
@@ -52,6 +56,7 @@ pub mod Resets
 mod Rows
 pub mod SaidHellos
 pub mod SaidNames
+pub mod SaidViews
 pub mod SeenLooks
 pub mod ServedBy
 mod ServingRows

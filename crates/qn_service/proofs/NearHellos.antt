@@ -1,15 +1,13 @@
 -- A running node that is up and keeps its pace says a Hello to each other one at each half loop and two turns.
-use Rattle.std.proofs.Common.{◌≡◌, ℕ, ◌<◌, ◌≤◌, true, List, ◌++◌, length}
+use Rattle.std.proofs.Common.{◌≡◌, ℕ, List, ◌++◌, length}
 use Rattle.qn_model.specs.declared.configuration.Settings.{Settings}
 use Rattle.qn_model.specs.declared.times.Timing.{Timing}
 use Rattle.qn_model.specs.Moments.{Before, Itself, Later}
-use Rattle.qn_model.specs.Sectors.{header_bytes}
-use Rattle.qn_safety.specs.Earlier.{before_joined, before_then}
-use Rattle.qn_sector.specs.Reading.{header_of}
+use Rattle.qn_safety.specs.Earlier.{before_joined}
 use Rattle.qn_joined.specs.Joints.{AllMayHappen, Happening, IsJoined, joint_after}
 use Rattle.qn_joined.specs.Moves.{EachIsOneEvent}
 use Rattle.qn_joined.specs.WorldOf.{EveryJointHasAWorld, HasWorld}
-use Rattle.qn_service.specs.Hellos.{HellosAreSaid, IsAwake, StaysAwake}
+use Rattle.qn_service.specs.Hellos.{HellosAreSaid, StaysAwake}
 use Rattle.qn_service.proofs.ByTheImage.{HeadersReadBack, all_work}
 use Rattle.qn_service.proofs.GoingOn.{may_before}
 use Rattle.qn_service.proofs.JointClocks.{ClockLaws}

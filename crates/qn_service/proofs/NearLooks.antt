@@ -1,45 +1,39 @@
 -- A look of a running node hears each one that is near it.
-use Rattle.std.proofs.Common.{◌≡◌, ◌⊎◌, inl, inr, ℕ, ◌+◌, ◌*◌, ◌/◌, ◌<◌, ◌≤◌, Bool, true, false, not, ◌||◌, ◌==◌, List, [], ◌∷◌, ◌++◌, Option, Some, length, refl, sym, ◌∙◌, ap, subst, arith}
+use Rattle.std.proofs.Common.{◌≡◌, ◌⊎◌, inl, inr, ℕ, ◌+◌, ◌*◌, ◌/◌, ◌<◌, ◌≤◌, true, false, ◌==◌, List, ◌∷◌, ◌++◌, Some, refl, sym, ◌∙◌, ap, subst, arith}
 use Rattle.std.specs.Prelude.{nat_le}
 use Rattle.std.specs.Option.{option_map_or}
-use Rattle.std.proofs.lemmas.Bool.{cases_lt, eq-eqb, eqb-true, false≢true, le-leb, or_right}
+use Rattle.std.proofs.lemmas.Bool.{cases_lt, le-leb, or_right}
 use Rattle.std.proofs.lemmas.Option.{same_Some}
 use Rattle.qn_model.specs.declared.configuration.Settings.{Settings}
-use Rattle.qn_model.specs.declared.events.Event.{Event}
 use Rattle.qn_model.specs.declared.packets.Packet.{Packet}
 use Rattle.qn_model.specs.declared.packets.Packet.TheVariants as packet
 use Rattle.qn_model.specs.declared.times.Timing.{Timing}
-use Rattle.qn_model.specs.Log.{Line, now}
+use Rattle.qn_model.specs.Log.{now}
 use Rattle.qn_model.specs.Moments.{Before, Itself, Later}
 use Rattle.qn_model.specs.NodeOutputs.{with_entry}
 use Rattle.qn_model.specs.Phases.{is_live, phase}
 use Rattle.qn_model.specs.Wanted.{rank_of}
-use Rattle.qn_base.specs.declared.calls.Call.{Call}
 use Rattle.qn_base.specs.declared.ids.Said.{Said}
 use Rattle.qn_base.specs.declared.ids.Standing.{Standing}
-use Rattle.qn_base.specs.declared.ids.View.{View}
-use Rattle.qn_base.specs.Members.{is_member}
 use Rattle.qn_io.specs.Answered.{time_of}
-use Rattle.qn_member.specs.Maker.{enough_of, is_heard, of_rank, plain}
+use Rattle.qn_member.specs.Maker.{enough_of, is_heard, plain}
 use Rattle.qn_member.specs.Naming.{NamingMaker, names_nobody}
 use Rattle.qn_live.specs.declared.place.Choice.{Choice}
-use Rattle.qn_live.specs.Choosing.{told}
 use Rattle.qn_live.specs.Running.{RunState}
-use Rattle.qn_safety.specs.Earlier.{before_joined, before_tail, before_then, before_total}
+use Rattle.qn_safety.specs.Earlier.{before_tail, before_then, before_total}
 use Rattle.qn_joined.specs.Joints.{Happening, Host, IsJoined, joint_after}
 use Rattle.qn_joined.specs.Moves.{EachIsOneEvent}
 use Rattle.qn_joined.specs.Stands.{Acting, Ended, Looking, Parting, Polling, Receiving, Saying, Spot, after_spot, log_at}
 use Rattle.qn_joined.specs.WorldOf.{EveryJointHasAWorld, HasWorld}
-use Rattle.qn_service.specs.Hellos.{IsHeardBy, IsNear, LooksHear, SaidHello, beat_ticks, hello_ticks, packet_chosen, packet_to_hear, packet_waiting}
-use Rattle.qn_service.specs.Looks.{LookOf, look_at, look_of}
+use Rattle.qn_service.specs.Hellos.{IsHeardBy, IsNear, LooksHear, SaidHello, Says, beat_ticks, hello_ticks, packet_chosen, packet_to_hear, packet_waiting}
+use Rattle.qn_service.specs.Looks.{LookOf, look_at}
 use Rattle.qn_service.specs.NextLooks.{look_of_rank}
 use Rattle.qn_service.specs.Serving.{clock_at}
 use Rattle.qn_service.specs.Unheard.{log_after}
 use Rattle.qn_service.proofs.ByTheImage.{HeadersReadBack}
-use Rattle.qn_service.proofs.FreshHellos.{HasFresh, KnowsHello, LookIs, NoFarewell, SaysSo, fresh_besides, fresh_leads, fresh_places, look_is, spot_hears, told_fresh}
-use Rattle.qn_service.proofs.JointClocks.{ClockLaws, ClocksRun, Made, ReturnOf, Still, UpStep, clocks_run, read_at, up_step}
+use Rattle.qn_service.proofs.FreshHellos.{HasFresh, KnowsHello, LookIs, NoFarewell, PlainSo, SaysSo, fresh_besides, fresh_leads, fresh_places, look_is, spot_hears, told_fresh}
+use Rattle.qn_service.proofs.JointClocks.{ClockLaws, ClocksRun, ReturnOf, UpStep, clocks_run, read_at, up_step}
 use Rattle.qn_service.proofs.KeptLoops.{loop_of, told_keeps}
-use Rattle.qn_service.proofs.Made.{filtered}
 use Rattle.qn_service.proofs.NearHellos.{makers_loop, old_world}
 use Rattle.qn_service.proofs.RankSteps.{host_after, returned_spot}
 use Rattle.qn_service.proofs.SaidHellos.{hello_said, look_made, some_loop, up_leads}
@@ -111,7 +105,7 @@ soon_enough : (beat turn post loop_ms from_old from_new to_old to_new time_old t
 soon_enough beat turn post loop_ms from_old from_new to_old to_new time_old time_new last slow fast lately close in_time =
     omega (arith, slow, fast, lately, close, in_time)
 
-late_enough : (beat turn post from_old from_new to_mid to_new time_old time_mid time_new : ℕ)
+pub late_enough : (beat turn post from_old from_new to_mid to_new time_old time_mid time_new : ℕ)
     → 99 * time_mid + from_old ≤ from_new + 99 * time_old
     → 99 * time_new + to_mid ≤ to_new + 99 * time_mid
     → to_new / 100 ≤ to_mid / 100 + post + turn
@@ -128,6 +122,12 @@ starts_before beat turn post to_old to_new time_old time_new slow late = omega (
 
 ticks_grow : (old new : ℕ) → old ≤ new → old / 100 ≤ new / 100
 ticks_grow old new grows = omega (arith, grows)
+
+pub later_time : (clock_old clock_new time_old time_new : ℕ) → clock_new + 101 * time_old ≤ 101 * time_new + clock_old → clock_old ≤ clock_new → time_old ≤ time_new
+later_time clock_old clock_new time_old time_new fast grows = omega (arith, fast, grows)
+
+pub still_late : (ticks time_first time_old time_new : ℕ) → time_old ≤ time_new → 100 * ticks + 99 * time_first ≤ 99 * time_old → 100 * ticks + 99 * time_first ≤ 99 * time_new
+still_late ticks time_first time_old time_new order late = omega (arith, order, late)
 
 -- ## One rank near another one
 
@@ -149,12 +149,15 @@ module _ (s : Settings) (t : Timing) (worlds : EveryJointHasAWorld s t) (one : E
   pub to_runs : (a b : List Happening) → Before older a → Before a b → Before b all → ClocksRun s image to a b
   to_runs = clocks_run s t image to older all has.events it.events laws it.trace joined.may (λ at since until. (near.hearer at since until).is)
 
-  to_grows : (a b : List Happening) → Before older a → Before a b → Before b all → clock_at s image a to ≤ clock_at s image b to
+  pub to_grows : (a b : List Happening) → Before older a → Before a b → Before b all → clock_at s image a to ≤ clock_at s image b to
   to_grows a b since order until =
       ticks_grow (host_after s image to a).clock (host_after s image to b).clock (to_runs a b since order until).grows
 
   pub to_step : (newest : Happening) (at : List Happening) → Before older at → Before (newest ∷ at) all → UpStep s t image to newest at
   to_step = up_step s t image to older all has.events it.events laws it.trace joined.may (λ at since until. (near.hearer at since until).is)
+
+  pub from_step : (newest : Happening) (at : List Happening) → Before older at → Before (newest ∷ at) all → UpStep s t image from newest at
+  from_step = up_step s t image from older all has.events it.events laws it.trace joined.may (λ at since until. (near.sender at since until).is)
 
   -- a happening takes a turn at most
   turn_passes : (newest : Happening) (at : List Happening) → Before older at → Before (newest ∷ at) all → clock_at s image (newest ∷ at) to ≤ clock_at s image at to + turn
@@ -204,21 +207,23 @@ module _ (s : Settings) (t : Timing) (worlds : EveryJointHasAWorld s t) (one : E
 
   -- a Hello that a look hears after a joint says what is so
   abbrev pub SaysSoFrom : (Said → Type 0) → List Happening → Type 0
-  SaysSoFrom P base = (at : List Happening) → Before base at → Before at all → SaysSo from P (packet_to_hear s image to at)
+  SaysSoFrom P base = (at : List Happening) → Before base at → Before at all
+      → SaysSo from P (packet_to_hear s image to at) × PlainSo from P (packet_to_hear s image to at)
 
-  fresh_on : (P : Said → Type 0) → P plain → (since : ℕ) (base at : List Happening) → Before older base → Before base at → Before at all → SaysSoFrom P base
+  fresh_on : (P : Said → Type 0) (since : ℕ) (base at : List Happening) → Before older base → Before base at → Before at all → SaysSoFrom P base
       → KnownAt (fresh_places from since P) (host_after s image to base).stand.spot → KnownAt (fresh_places from since P) (host_after s image to at).stand.spot
-  fresh_on P plain_so since base at after Itself until so known = known
-  fresh_on P plain_so since base (newest ∷ at) after (Later same order) until so known =
-      up_leads s t image to newest at (fresh_besides s from P) (fresh_places from since P) (fresh_places from since P) (fresh_leads s to from since P plain_so)
+  fresh_on P since base at after Itself until so known = known
+  fresh_on P since base (newest ∷ at) after (Later same order) until so known =
+      up_leads s t image to newest at (fresh_besides s from P) (fresh_places from since P) (fresh_places from since P) (fresh_leads s to from since P)
       (to_step newest at (before_then after order) until)
       (λ chosen is tick told. (
         stays_at at (before_then after order) (before_tail until) chosen is,
-        λ said standing comes. so at order (before_tail until) said standing (ap packet_waiting is ∙ comes),
+        λ said standing comes. (so at order (before_tail until)).0 said standing (ap packet_waiting is ∙ comes),
+        λ comes. (so at order (before_tail until)).1 (ap packet_waiting is ∙ comes),
       ))
       (λ look is. tt) (λ sent rest st is says. tt)
       (ap is_live (near.hearer (newest ∷ at) (Later newest (before_then after order)) until).is.up) (any_maker (host_after s image to at).stand.spot)
-      (fresh_on P plain_so since base at after order (before_tail until) so known)
+      (fresh_on P since base at after order (before_tail until) so known)
 
   pub made_look : (newest : Happening) (at : List Happening) (look : LookOf) → Before older at → Before (newest ∷ at) all → look_of_rank s image to newest at ≡ Some look
       → (r : ReturnOf s t image to newest at) × (look_at to (host_after s image to at).stand.spot r.made ≡ Some look)
@@ -232,12 +237,12 @@ module _ (s : Settings) (t : Timing) (worlds : EveryJointHasAWorld s t) (one : E
       is.tick ∙ made.0.told is.chosen is.is
 
   -- a Hello that a look heard is known after it
-  heard_then : (P : Said → Type 0) → P plain → ((enough_of s == 0) ≡ true → P names_nobody) → (limit : ℕ) (since : List Happening) → Before older since
+  heard_then : (P : Said → Type 0) → ((enough_of s == 0) ≡ true → P names_nobody × P plain) → (limit : ℕ) (since : List Happening) → Before older since
       → (said : Said) (standing : Standing) → P said → (h : IsHeardBy s image to (packet.Heard (rank_of from) said standing) limit since all)
       → KnownAt (fresh_places from h.look.tick P) (host_after s image to (h.happening ∷ h.at)).stand.spot
-  heard_then P plain_so two limit since after said standing so h =
+  heard_then P two limit since after said standing so h =
       subst (KnownAt (fresh_places from h.look.tick P)) (sym there)
-      (spot_hears s to from P plain_so near.configured.0 joined.fits.few two said standing so h.look host.leave host.stand.turn host.stand.more host.stand.spot made.0.made made.1
+      (spot_hears s to from P near.configured.0 joined.fits.few two said standing so h.look host.leave host.stand.turn host.stand.more host.stand.spot made.0.made made.1
       h.hears (always_sound s image to h.at)
       (subst (λ (spot : Spot). is_live (phase s (log_at spot)) ≡ true) there
       (ap is_live (near.hearer (h.happening ∷ h.at) (Later h.happening (before_then after h.after)) h.back).is.up)))
@@ -250,6 +255,41 @@ module _ (s : Settings) (t : Timing) (worlds : EveryJointHasAWorld s t) (one : E
 
       there : (host_after s image to (h.happening ∷ h.at)).stand.spot ≡ (after_spot s to host.leave host.stand.turn host.stand.more host.stand.spot made.0.made).spot
       there = made.0.stand ∙ returned_spot s to (joint_after s image h.at).time host made.0.made
+
+  -- ## What is heard
+
+  -- a packet was heard before a joint
+  pub record Reached (p : Packet) (limit : ℕ) (since at : List Happening) : Type 0 where
+    pub came : IsHeardBy s image to p limit since all
+    pub before : Before (came.happening ∷ came.at) at
+
+  pub reaches : (p : Packet) (said_at : List Happening) (said : Happening) (at : List Happening) → Before older said_at → Before (said ∷ said_at) at → Before at all
+      → Says s image from to p said said_at → clock_at s image said_at to + post < clock_at s image at to
+      → Reached p (clock_at s image said_at to + post) (said ∷ said_at) at
+  reaches p said_at said at after order until says late = record { came = came; before = by_place (before_total came.back until) }
+    where
+      since : Before older at
+      since = before_then (Later said after) order
+
+      came : IsHeardBy s image to p (clock_at s image said_at to + post) (said ∷ said_at) all
+      came = near.come said_at said p after (before_then order until) says (let grows = to_grows at all since until Itself in omega (arith, grows, late))
+
+      never : Before at came.at → ⊥
+      never later =
+          let grows = to_grows at came.at since later (before_tail came.back) in
+          let soon = came.soon in
+          omega (arith, grows, soon, late)
+
+      by_newest : {h : List Happening} → Before at h → h ≡ came.happening ∷ came.at → Before (came.happening ∷ came.at) at
+      by_newest Itself is = subst (λ (h : List Happening). Before h at) is Itself
+      by_newest (Later more {new = earlier} up_to) is = absurd (never (subst (λ (h : List Happening). Before at h) (tail_of is) up_to))
+        where
+          tail_of : {a b : Happening} {first second : List Happening} → a ∷ first ≡ b ∷ second → first ≡ second
+          tail_of e = cc
+
+      by_place : Before (came.happening ∷ came.at) at ⊎ Before at (came.happening ∷ came.at) → Before (came.happening ∷ came.at) at
+      by_place (inl earlier) = earlier
+      by_place (inr later) = by_newest later refl
 
   -- ## A look
 
@@ -275,47 +315,24 @@ module _ (s : Settings) (t : Timing) (worlds : EveryJointHasAWorld s t) (one : E
         (host_after s image to at).clock (joint_after s image older).time (joint_after s image mid.at).time (joint_after s image at).time
         (from_runs older mid.at Itself mid.since (before_then mid.until until_at)).slow (to_runs mid.at at mid.since mid.until until_at).slow mid.close late)
 
-    said_before : Before hello.at at
-    said_before = before_then (before_tail hello.back) mid.until
-
-    said_until : Before (hello.happening ∷ hello.at) all
-    said_until = before_then hello.back (before_then mid.until until_at)
-
     comes_before : clock_at s image hello.at to + post < clock_at s image at to
     comes_before =
         let grows = to_grows hello.at mid.at hello.after (before_tail hello.back) (before_then mid.until until_at) in
         let early = mid.early in
         omega (arith, grows, early)
 
-    pub heard_it : IsHeardBy s image to (packet.Heard (rank_of from) hello.said hello.standing) (clock_at s image hello.at to + post) (hello.happening ∷ hello.at) all
-    heard_it =
-        near.come hello.at hello.happening (packet.Heard (rank_of from) hello.said hello.standing) hello.after said_until hello.says
-        (let grows = to_grows at all since until_at Itself in let before = comes_before in omega (arith, grows, before))
+    pub reached : Reached (packet.Heard (rank_of from) hello.said hello.standing) (clock_at s image hello.at to + post) (hello.happening ∷ hello.at) at
+    reached =
+        reaches (packet.Heard (rank_of from) hello.said hello.standing) hello.at hello.happening at hello.after (before_then hello.back mid.until) until_at hello.says comes_before
 
-    pub heard_since : Before older heard_it.at
+    abbrev pub heard_it : IsHeardBy s image to (packet.Heard (rank_of from) hello.said hello.standing) (clock_at s image hello.at to + post) (hello.happening ∷ hello.at) all
+    heard_it = reached.came
+
+    heard_since : Before older heard_it.at
     heard_since = before_then (Later hello.happening hello.after) heard_it.after
 
-    -- it was heard before the look
-    never : Before at heard_it.at → ⊥
-    never order =
-        let grows = to_grows at heard_it.at since order (before_tail heard_it.back) in
-        let soon = heard_it.soon in
-        let before = comes_before in
-        omega (arith, grows, soon, before)
-
-    by_newest : {h : List Happening} → Before at h → h ≡ heard_it.happening ∷ heard_it.at → Before (heard_it.happening ∷ heard_it.at) at
-    by_newest Itself is = subst (λ (h : List Happening). Before h at) is Itself
-    by_newest (Later more {new = earlier} up_to) is = absurd (never (subst (λ (h : List Happening). Before at h) (tail_of is) up_to))
-      where
-        tail_of : {a b : Happening} {first second : List Happening} → a ∷ first ≡ b ∷ second → first ≡ second
-        tail_of e = cc
-
-    pub heard_before : Before (heard_it.happening ∷ heard_it.at) at
-    heard_before = by_place (before_total heard_it.back until_at)
-      where
-        by_place : Before (heard_it.happening ∷ heard_it.at) at ⊎ Before at (heard_it.happening ∷ heard_it.at) → Before (heard_it.happening ∷ heard_it.at) at
-        by_place (inl earlier) = earlier
-        by_place (inr later) = by_newest later refl
+    heard_before : Before (heard_it.happening ∷ heard_it.at) at
+    heard_before = reached.before
 
     heard_tick : heard_it.look.tick ≡ clock_at s image heard_it.at to
     heard_tick = look_tick heard_it.happening heard_it.at heard_it.look heard_since heard_it.back heard_it.is
@@ -347,12 +364,12 @@ module _ (s : Settings) (t : Timing) (worlds : EveryJointHasAWorld s t) (one : E
         ∙ subst (MakerAt (λ m. loop_of m ≡ t.loop_ms)) is.is (makers_loop s t worlds back image newer older joined turn to near.hearer at since until_at) is.before is.had
 
     -- the Hello that is known at the look says what each says that was heard since
-    module _ (P : Said → Type 0) (plain_so : P plain) (two : (enough_of s == 0) ≡ true → P names_nobody) (so : P hello.said)
+    module _ (P : Said → Type 0) (two : (enough_of s == 0) ≡ true → P names_nobody × P plain) (so : P hello.said)
         (all_so : SaysSoFrom P (heard_it.happening ∷ heard_it.at)) where
       known : KnownAt (fresh_places from heard_it.look.tick P) (host_after s image to at).stand.spot
       known =
-          fresh_on P plain_so heard_it.look.tick (heard_it.happening ∷ heard_it.at) at (Later heard_it.happening heard_since) heard_before until_at all_so
-          (heard_then P plain_so two (clock_at s image hello.at to + post) (hello.happening ∷ hello.at) (Later hello.happening hello.after) hello.said hello.standing so heard_it)
+          fresh_on P heard_it.look.tick (heard_it.happening ∷ heard_it.at) at (Later heard_it.happening heard_since) heard_before until_at all_so
+          (heard_then P two (clock_at s image hello.at to + post) (hello.happening ∷ hello.at) (Later hello.happening hello.after) hello.said hello.standing so heard_it)
 
       fresh : HasFresh from heard_it.look.tick P is.chosen.1.log is.chosen.1.maker
       fresh = subst (KnownAt (fresh_places from heard_it.look.tick P)) is.is known
@@ -364,10 +381,11 @@ module _ (s : Settings) (t : Timing) (worlds : EveryJointHasAWorld s t) (one : E
       pub knows : KnowsHello from heard_it.look.tick P look.maker.maker
       knows =
           subst (λ (m : NamingMaker). KnowsHello from heard_it.look.tick P m.maker) (sym is.told)
-          (told_fresh from heard_it.look.tick P plain_so (time_of made.0.made) is.own (packet_chosen is.chosen.0) is.before
+          (told_fresh from heard_it.look.tick P (time_of made.0.made) is.own (packet_chosen is.chosen.0) is.before
           (let grows = to_grows heard_it.at at heard_since (before_tail heard_before) until_at in let told = heard_tick in let here = tick_is in omega (arith, grows, told, here))
           (stays_at at since until_at is.chosen is.is)
-          (λ said standing comes. all_so at heard_before until_at said standing (ap packet_waiting is.is ∙ comes)) before_knows)
+          (λ said standing comes. (all_so at heard_before until_at).0 said standing (ap packet_waiting is.is ∙ comes))
+          (λ comes. (all_so at heard_before until_at).1 (ap packet_waiting is.is ∙ comes)) before_knows)
 
     pub hears_by : (P : Said → Type 0) → KnowsHello from heard_it.look.tick P look.maker.maker → is_heard look.tick look.maker.maker from ≡ true
     hears_by P knows =
@@ -381,7 +399,7 @@ module _ (s : Settings) (t : Timing) (worlds : EveryJointHasAWorld s t) (one : E
             omega (arith, same, here, late_then, enough, loop)
 
     pub look_hears : is_heard look.tick look.maker.maker from ≡ true
-    look_hears = hears_by (λ said. Unit {0}) (knows (λ said. Unit {0}) tt (λ none. tt) tt (λ h order until' said standing comes. tt))
+    look_hears = hears_by (λ said. Unit {0}) (knows (λ said. Unit {0}) (λ none. (tt, tt)) tt (λ h order until'. (λ said standing comes. tt, λ comes. tt)))
 
 pub looks_hear : (s : Settings) (t : Timing) → EveryJointHasAWorld s t → EachIsOneEvent s t → HeadersReadBack → ClockLaws → LooksHear s t
 looks_hear s t worlds one back laws image turn post from to newer older at happening look joined near since until found late =

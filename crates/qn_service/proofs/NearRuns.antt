@@ -1,5 +1,5 @@
 -- A joined run in which two nodes boot beside each other, and each look of one hears the other.
-use Rattle.std.proofs.Common.{ℕ, Bool, true, false, List, [], ◌∷◌, ◌++◌, ◌^◌, ◌==◌, None, Some, if◌then◌else◌, refl, arith}
+use Rattle.std.proofs.Common.{ℕ, true, false, List, [], ◌∷◌, ◌^◌, ◌==◌, None, Some, if◌then◌else◌, refl, arith}
 use Rattle.std.proofs.lemmas.Bool.{false≢true}
 use Rattle.qn_base.specs.declared.calls.Call.TheVariants as call
 use Rattle.qn_base.specs.declared.calls.Received.TheVariants as received

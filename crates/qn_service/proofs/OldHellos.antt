@@ -1,8 +1,7 @@
 -- Of a rank of which no Hello comes a node knows none that is newer, so it sees it no more after three loops.
-use Rattle.std.proofs.Common.{◌≡◌, ◌⊎◌, inl, inr, ℕ, suc, zero, ◌+◌, ◌*◌, ◌<◌, ◌≤◌, Bool, true, false, not, ◌&&◌, ◌||◌, ◌==◌, List, [], ◌∷◌, ◌++◌, Option, None, Some, length, if◌then◌else◌, refl, sym, ◌∙◌, ap, subst, arith, eq-eqb}
-use Rattle.std.specs.Prelude.{nat_le, option_map, slice_set}
-use Rattle.std.specs.Option.{option_map_or}
-use Rattle.std.proofs.lemmas.Bool.{cases_eq, eqb-true, false≢true, lt-leb}
+use Rattle.std.proofs.Common.{◌≡◌, ◌⊎◌, inl, inr, ℕ, suc, zero, ◌≤◌, Bool, true, false, not, ◌&&◌, List, [], ◌∷◌, Option, None, Some, if◌then◌else◌, refl, sym, ◌∙◌, ap, subst, arith, eq-eqb}
+use Rattle.std.specs.Prelude.{option_map, slice_set}
+use Rattle.std.proofs.lemmas.Bool.{false≢true}
 use Rattle.std.proofs.lemmas.Option.{none-some, same_Some}
 use Rattle.qn_base.specs.declared.ids.Said.{Said}
 use Rattle.qn_base.specs.declared.ids.Standing.{Standing}
@@ -11,14 +10,14 @@ use Rattle.qn_base.specs.Members.{is_member}
 use Rattle.qn_model.specs.declared.configuration.Settings.{Settings}
 use Rattle.qn_model.specs.declared.packets.Packet.{Packet}
 use Rattle.qn_model.specs.declared.packets.Packet.TheVariants as packet
-use Rattle.qn_model.specs.Log.{Line, now}
+use Rattle.qn_model.specs.Log.{now}
 use Rattle.qn_model.specs.NodeOutputs.{with_entry}
 use Rattle.qn_model.specs.Phases.{is_live, phase}
-use Rattle.qn_member.specs.Maker.{Maker, after_announce, after_hello, has_configured, hellos_after, is_configured, of_rank, plain, says_more}
+use Rattle.qn_member.specs.Maker.{Maker, after_announce, after_hello, has_configured, is_configured, of_rank, plain, says_more}
 use Rattle.qn_member.specs.Naming.{NamingMaker, after_named_announce, after_named_hello, after_stand, after_standing, first_naming, has_bit, is_other, knows_bit}
-use Rattle.qn_member.specs.NamingViews.{after_look, after_naming_hello_due, answer_at, is_naming_hello_due}
+use Rattle.qn_member.specs.NamingViews.{after_look, after_naming_hello_due, is_naming_hello_due}
 use Rattle.qn_live.specs.declared.words.Own.{Own}
-use Rattle.qn_live.specs.Choosing.{heard, told, view_or_tick}
+use Rattle.qn_live.specs.Choosing.{heard, told}
 use Rattle.qn_live.specs.Greetings.{maker_begun, maker_where}
 use Rattle.qn_joined.specs.Joints.{Happening, joint_after}
 use Rattle.qn_joined.specs.Stands.{Stand, first_stand}

@@ -1,29 +1,27 @@
--- From joint to joint a running node that is up and keeps its pace has said a Hello to each other one lately.
-use Rattle.std.proofs.Common.{◌≡◌, ◌⊎◌, inl, inr, ℕ, ◌+◌, ◌*◌, ◌/◌, ◌<◌, ◌≤◌, Bool, true, false, ◌&&◌, ◌==◌, List, [], ◌∷◌, ◌++◌, Option, None, Some, if◌then◌else◌, length, refl, sym, ◌∙◌, ap, subst, arith}
+-- From joint to joint a running node that is up and keeps its pace has said lately what it has to say at each beat, as a Hello to each other one.
+use Rattle.std.proofs.Common.{◌≡◌, inl, inr, ℕ, ◌+◌, ◌<◌, ◌≤◌, true, ◌&&◌, ◌==◌, List, ◌∷◌, None, Some, if◌then◌else◌, length, sym, ◌∙◌, ap, subst, arith}
 use Rattle.std.specs.Prelude.{IsTrue, option_and_then, option_map}
 use Rattle.std.proofs.lemmas.Bool.{and_parts, eq-eqb, false≢true, leb-true}
-use Rattle.qn_base.specs.declared.calls.Call.{Call}
 use Rattle.qn_io.specs.Answered.{time_of}
 use Rattle.qn_model.specs.declared.configuration.Settings.{Settings}
 use Rattle.qn_model.specs.declared.events.Event.{Event}
 use Rattle.qn_model.specs.declared.packets.Sent.{Sent}
 use Rattle.qn_model.specs.declared.times.Timing.{Timing}
-use Rattle.qn_model.specs.Log.{Line, now}
+use Rattle.qn_model.specs.Log.{now}
 use Rattle.qn_model.specs.Moments.{Before, Itself, Later}
-use Rattle.qn_model.specs.NodeOutputs.{with_entry}
-use Rattle.qn_model.specs.Phases.{is_live, phase}
+use Rattle.qn_model.specs.Phases.{is_live}
 use Rattle.qn_model.specs.Timing.{has_periods, is_period}
 use Rattle.qn_safety.specs.Earlier.{before_tail}
 use Rattle.qn_live.specs.declared.place.Choice.{Choice}
 use Rattle.qn_live.specs.Running.{RunState}
-use Rattle.qn_joined.specs.Joints.{AllMayHappen, Happening, Host, Returns, joint_after}
+use Rattle.qn_joined.specs.Joints.{AllMayHappen, Happening, Host, joint_after}
 use Rattle.qn_joined.specs.Stands.{Acting, Ended, Looking, Parting, Polling, Receiving, Saying, Spot, Stand, after_spot, log_at}
 use Rattle.qn_service.specs.Hellos.{IsAwake, SaidHello, StaysAwake, beat_ticks, packet_chosen, said_in, sent_next}
 use Rattle.qn_service.specs.Looks.{LookOf, look_at, look_of}
 use Rattle.qn_service.specs.NextLooks.{look_of_rank}
 use Rattle.qn_service.specs.Serving.{clock_at}
 use Rattle.qn_service.specs.Unheard.{log_after}
-use Rattle.qn_service.proofs.Beats.{Beats, WasSaid, beat_besides, beat_leads, beat_places, beats_at, beats_first}
+use Rattle.qn_service.proofs.Beats.{Beats, Speech, WasSaid, beat_besides, beat_leads, beat_places, beats_at, beats_first, hello_speech, speech_places}
 use Rattle.qn_service.proofs.JointClocks.{ClockLaws, Made, ReturnOf, Still, UpStep, read_at, up_step}
 use Rattle.qn_service.proofs.KeptLoops.{loop_of}
 use Rattle.qn_service.proofs.KeptViews.{look_rank}
@@ -101,24 +99,37 @@ look_made s t image rank newest at look step found = by_step step
 
 -- ## A node that keeps its pace
 
-module _ (s : Settings) (t : Timing) (image : ℕ → List ℕ) (turn from to : ℕ) (older newer : List Happening) (first events : List Event) (laws : ClockLaws)
+-- a packet that is so was said by a rank between two joints, at most so many ticks of its clock before the new one
+pub record SaidLately (s : Settings) (image : ℕ → List ℕ) (from : ℕ) (Is : Sent → Type 0) (limit : ℕ) (old new : List Happening) : Type 0 where
+  pub at : List Happening
+  pub happening : Happening
+  pub sent : Sent
+  pub so : Is sent
+  pub after : Before old at
+  pub back : Before (happening ∷ at) new
+  pub says : said_in s image happening at ≡ Some (from, sent)
+  pub soon : clock_at s image new from ≤ clock_at s image at from + limit
+
+module _ (s : Settings) (t : Timing) (image : ℕ → List ℕ) (turn from : ℕ) (older newer : List Happening) (first events : List Event) (laws : ClockLaws)
     (trace : Trace s t image older first newer events) (may : AllMayHappen s t image newer) (awake : StaysAwake s image turn from older newer)
     (makers : (at : List Happening) → Before older at → Before at newer → MakerAt (λ m. loop_of m ≡ t.loop_ms) (host_after s image from at).stand.spot)
-    (under : to < length s.nodes) (apart : to ≡ from → ⊥) (some : 1 ≤ t.loop_ms) where
+    (some : 1 ≤ t.loop_ms) (speech : Speech s from) (speaks : KnownAt (speech_places speech) (host_after s image from older).stand.spot)
+    (looking : (at : List Happening) (newest : Happening) (look : LookOf) → Before older at → Before (newest ∷ at) newer → look_of_rank s image from newest at ≡ Some look
+    → speech.look look.tick look.maker) where
   abbrev beats : List Happening → Places
-  beats at = beat_places s image from to turn t.loop_ms older at
+  beats at = beat_places s image from turn t.loop_ms older speech at
 
   read_in : (at : List Happening) → Before older at → Before at newer → now (log_after s image at from) ≤ clock_at s image at from
   read_in = read_at s t image from older newer first events laws trace may (λ at since back. (awake at since back).is)
 
   pub beats_known : (at : List Happening) → Before older at → Before at newer → KnownAt (beats at) (host_after s image from at).stand.spot
   beats_known at Itself back =
-      beats_first s image from to turn t.loop_ms older under apart some (host_after s image from older).stand.spot (read_in older Itself back) (always_sound s image from older)
+      beats_first s image from turn t.loop_ms older speech some (host_after s image from older).stand.spot (read_in older Itself back) (always_sound s image from older) speaks
   beats_known (newest ∷ at) (Later same since) back =
-      up_leads s t image from newest at (beat_besides s image from to turn t.loop_ms older newest at) (beats at) (beats (newest ∷ at))
-      (beat_leads s image from to turn t.loop_ms older under apart some newest at since)
+      up_leads s t image from newest at (beat_besides s image from turn t.loop_ms older speech newest at) (beats at) (beats (newest ∷ at))
+      (beat_leads s image from turn t.loop_ms older speech some newest at since)
       (up_step s t image from older newer first events laws trace may (λ h a b. (awake h a b).is) newest at since back)
-      clock (λ look is. tt) sends (ap is_live (awake (newest ∷ at) (Later newest since) back).is.up) (makers at since (before_tail back)) (beats_known at since (before_tail back))
+      clock (λ look found. looking at newest look since back found) sends (ap is_live (awake (newest ∷ at) (Later newest since) back).is.up) (makers at since (before_tail back)) (beats_known at since (before_tail back))
     where
       here : IsAwake s image turn from at
       here = awake at since (before_tail back)
@@ -136,27 +147,59 @@ module _ (s : Settings) (t : Timing) (image : ℕ → List ℕ) (turn from to : 
           let same : now (log_after s image at from) ≡ now st.log = ap (λ (spot : Spot). now (log_at spot)) is in
           (says, omega (arith, read, same))
 
-  pub hello_said : (at : List Happening) → Before older at → Before at newer → clock_at s image older from + beat_ticks t turn < clock_at s image at from
-      → SaidHello s image from to (beat_ticks t turn) older at
-  hello_said at since back late = by_said lately.said
+  pub said_lately : (at : List Happening) → Before older at → Before at newer → clock_at s image older from + beat_ticks t turn < clock_at s image at from
+      → SaidLately s image from speech.is (beat_ticks t turn) older at
+  said_lately at since back late = by_said lately.said
     where
-      lately : Beats s image from to turn t.loop_ms older at turn (log_after s image at from)
-      lately = beats_at s image from to turn t.loop_ms older under apart some at (host_after s image from at).stand.spot (beats_known at since back)
+      lately : Beats s image from turn t.loop_ms older speech at turn (log_after s image at from)
+      lately = beats_at s image from turn t.loop_ms older speech some at (host_after s image from at).stand.spot (beats_known at since back)
 
       soon : clock_at s image at from ≤ lately.tick + beat_ticks t turn
       soon = let paced = (awake at since back).turns in let beat = lately.soon in omega (arith, paced, beat)
 
-      by_said : WasSaid s image from to turn t.loop_ms older at lately.tick → SaidHello s image from to (beat_ticks t turn) older at
+      by_said : WasSaid s image from turn t.loop_ms older speech at lately.tick → SaidLately s image from speech.is (beat_ticks t turn) older at
       by_said (inr early) = absurd (omega (arith, soon, early, late))
       by_said (inl it) =
           let after = it.late in
           record {
             at = it.at;
             happening = it.happening;
-            said = it.said;
-            standing = it.standing;
+            sent = it.sent;
+            so = it.so;
             after = it.after;
             back = it.back;
             says = it.says;
             soon = omega (arith, soon, after);
           }
+
+-- nothing is asked of a view maker that has to say its Hellos
+any_speech : (s : Settings) (from to : ℕ) (under : to < length s.nodes) (apart : to ≡ from → ⊥) (spot : Spot) → KnownAt (speech_places (hello_speech s from to under apart)) spot
+any_speech s from to under apart (Receiving st) = tt
+any_speech s from to under apart (Looking chosen) = tt
+any_speech s from to under apart (Acting entry outs o rest st) = tt
+any_speech s from to under apart (Polling poll sents st) = tt
+any_speech s from to under apart (Saying sent rest st) = tt
+any_speech s from to under apart (Parting end sent rest st) = tt
+any_speech s from to under apart (Ended ran) = tt
+
+-- so each other rank was said a Hello lately
+pub hello_said : (s : Settings) (t : Timing) (image : ℕ → List ℕ) (turn from to : ℕ) (older newer : List Happening) (first events : List Event) (laws : ClockLaws)
+    → Trace s t image older first newer events → AllMayHappen s t image newer → StaysAwake s image turn from older newer
+    → ((at : List Happening) → Before older at → Before at newer → MakerAt (λ m. loop_of m ≡ t.loop_ms) (host_after s image from at).stand.spot)
+    → (under : to < length s.nodes) (apart : to ≡ from → ⊥) → 1 ≤ t.loop_ms
+    → (at : List Happening) → Before older at → Before at newer → clock_at s image older from + beat_ticks t turn < clock_at s image at from
+    → SaidHello s image from to (beat_ticks t turn) older at
+hello_said s t image turn from to older newer first events laws trace may awake makers under apart some at since back late =
+    let it =
+    said_lately s t image turn from older newer first events laws trace may awake makers some (hello_speech s from to under apart)
+    (any_speech s from to under apart (host_after s image from older).stand.spot) (λ j newest look since' back' found. tt) at since back late in
+    record {
+      at = it.at;
+      happening = it.happening;
+      said = it.so.0;
+      standing = it.so.1;
+      after = it.after;
+      back = it.back;
+      says = it.says ∙ ap (λ (one : Sent). Some (from, one)) it.so.2;
+      soon = it.soon;
+    }

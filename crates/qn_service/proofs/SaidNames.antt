@@ -1,5 +1,5 @@
--- What a running node says names whom its last look heard.
-use Rattle.std.proofs.Common.{◌≡◌, ◌⊎◌, inl, inr, ℕ, suc, zero, ◌<◌, Bool, true, false, ◌&&◌, ◌==◌, List, [], ◌∷◌, ◌++◌, Option, None, Some, length, if◌then◌else◌, refl, sym, ◌∙◌, ap, subst}
+-- What a running node says is what its last look left to be said: it names whom that heard.
+use Rattle.std.proofs.Common.{◌≡◌, ℕ, ◌<◌, Bool, true, false, List, [], ◌∷◌, ◌++◌, Option, None, Some, length, if◌then◌else◌, refl, sym, ◌∙◌, ap, subst}
 use Rattle.std.specs.Prelude.{option_map}
 use Rattle.std.specs.Option.{option_map_or}
 use Rattle.std.proofs.lemmas.Bool.{false≢true}
@@ -14,7 +14,7 @@ use Rattle.qn_model.specs.declared.configuration.Settings.{Settings}
 use Rattle.qn_model.specs.declared.packets.Packet.{Packet}
 use Rattle.qn_model.specs.declared.packets.Packet.TheVariants as packet
 use Rattle.qn_model.specs.declared.packets.Sent.{Sent}
-use Rattle.qn_model.specs.Log.{Line, now}
+use Rattle.qn_model.specs.Log.{now}
 use Rattle.qn_model.specs.Phases.{is_live, phase}
 use Rattle.qn_model.specs.Wanted.{rank_of}
 use Rattle.qn_member.specs.Announcing.{is_beat}
@@ -161,55 +161,54 @@ module _ (s : Settings) (image : ℕ → List ℕ) (rank : ℕ) where
           (spot_leads s rank no_besides word_places word_places (word_leads s rank) host.leave host.stand.turn host.stand.more host.stand.spot c.made
           (λ chosen is. tt) (λ look is. tt) (λ sent rest st is. tt) tt (any_maker host.stand.spot) before)
 
--- ## Whom a node names
+-- ## What a node has to say
 
--- there is a view maker, and what it says names a rank
-pub record HasNamed (to : ℕ) (had : Option NamingMaker) : Type 0 where
+-- there is a view maker, and what it says passes a test
+pub record HasWord (test : Said → Bool) (had : Option NamingMaker) : Type 0 where
   pub maker : NamingMaker
   pub is : had ≡ Some maker
-  pub names : is_member maker.maker.says.hears to ≡ true
+  pub so : test maker.maker.says ≡ true
 
-abbrev pub named_places : ℕ → Places
-named_places to =
+abbrev pub saying_places : (Said → Bool) → Places
+saying_places test =
     record {
-      between = λ log had. HasNamed to had;
-      acting = λ log had. HasNamed to had;
-      saying = λ sents log had. HasNamed to had;
+      between = λ log had. HasWord test had;
+      acting = λ log had. HasWord test had;
+      saying = λ sents log had. HasWord test had;
       over = λ log. Unit {0};
     }
 
--- beside: each look names it, and the node is live
-abbrev pub named_besides : Settings → ℕ → Besides
-named_besides s to =
+-- beside: what each look leaves to be said passes it, and the node is live
+abbrev pub saying_besides : Settings → (Said → Bool) → Besides
+saying_besides s test =
     record {
       clock = λ log tick p. Unit {0};
-      look = λ tick m. is_member (after_look tick m).maker.says.hears to ≡ true;
+      look = λ tick m. test (after_look tick m).maker.says ≡ true;
       sent = λ sent log. Unit {0};
       log = λ log. is_live (phase s log) ≡ true;
       maker = λ m. Unit {0};
     }
 
-left_named : (to tick : ℕ) (live : Bool) (begun : NamingMaker) (had : Option NamingMaker) → live ≡ true → HasNamed to had
-    → HasNamed to (option_map (after_naming_hello_due tick) (maker_where live begun had))
-left_named to tick false begun had live named = absurd (false≢true live)
-left_named to tick true begun None live named = absurd (none-some named.maker named.is)
-left_named to tick true begun (Some m) live named =
+left_word : (test : Said → Bool) (tick : ℕ) (live : Bool) (begun : NamingMaker) (had : Option NamingMaker) → live ≡ true → HasWord test had
+    → HasWord test (option_map (after_naming_hello_due tick) (maker_where live begun had))
+left_word test tick false begun had live word = absurd (false≢true live)
+left_word test tick true begun None live word = absurd (none-some word.maker word.is)
+left_word test tick true begun (Some m) live word =
     record {
       maker = after_naming_hello_due tick m;
       is = refl;
-      names = ap (λ (said : Said). is_member said.hears to) (due_says tick m)
-          ∙ ap (λ (k : NamingMaker). is_member k.maker.says.hears to) (same_Some m named.maker named.is) ∙ named.names;
+      so = ap test (due_says tick m) ∙ ap (λ (k : NamingMaker). test k.maker.says) (same_Some m word.maker word.is) ∙ word.so;
     }
 
-pub named_leads : (s : Settings) (me to : ℕ) → StepsLead s me (named_besides s to) (named_places to) (named_places to)
-named_leads s me to =
+pub saying_leads : (s : Settings) (me : ℕ) (test : Said → Bool) → StepsLead s me (saying_besides s test) (saying_places test) (saying_places test)
+saying_leads s me test =
     record {
       waits = λ log had known. known;
       takes = λ log had tick p entry clock order makers known. known;
-      looks = λ log m tick own p clock looking order maker known. record { maker = after_look tick (told tick own p m); is = refl; names = looking };
+      looks = λ log m tick own p clock looking order maker known. record { maker = after_look tick (told tick own p m); is = refl; so = looking };
       kept = λ m tick own p known. tt;
       acts = λ log had known. known;
-      greets = λ log had loop_ms own live makers known. left_named to (now log) (is_live (phase s log)) (maker_begun s me loop_ms own) had live known;
+      greets = λ log had loop_ms own live makers known. left_word test (now log) (is_live (phase s log)) (maker_begun s me loop_ms own) had live known;
       polls = λ sents log had known. known;
       says = λ sent rest log had says known. known;
       said = λ log had known. known;
@@ -240,23 +239,24 @@ says_next s image from sent (LandsLate rank number) earlier says = absurd (none-
 says_next s image from sent (Ends rank) earlier says = absurd (none-some (from, sent) says)
 says_next s image from sent (Operates rank message) earlier says = absurd (none-some (from, sent) says)
 
-spot_names : (to : ℕ) (from place : Rank) (said : Said) (standing : Standing) (spot : Spot) → sent_next spot ≡ Some (record { to = place; packet = packet.Heard from said standing })
-    → KnownAt (named_places to) spot → KnownAt word_places spot → is_member said.hears to ≡ true
-spot_names to from place said standing (Saying sent rest st) next named words =
+spot_words : (test : Said → Bool) (from place : Rank) (said : Said) (standing : Standing) (spot : Spot)
+    → sent_next spot ≡ Some (record { to = place; packet = packet.Heard from said standing })
+    → KnownAt (saying_places test) spot → KnownAt word_places spot → test said ≡ true
+spot_words test from place said standing (Saying sent rest st) next word words =
     let same : sent ≡ record { to = place; packet = packet.Heard from said standing } = same_Some sent _ next in
-    let says : said ≡ named.maker.maker.says = (words named.maker named.is).0 from said standing (ap (λ (one : Sent). one.packet) same) in
-    ap (λ (w : Said). is_member w.hears to) says ∙ named.names
-spot_names to from place said standing (Receiving st) next named words = absurd (none-some _ next)
-spot_names to from place said standing (Looking chosen) next named words = absurd (none-some _ next)
-spot_names to from place said standing (Acting entry outs o rest st) next named words = absurd (none-some _ next)
-spot_names to from place said standing (Polling poll sents st) next named words = absurd (none-some _ next)
-spot_names to from place said standing (Parting end sent rest st) next named words = absurd (none-some _ next)
-spot_names to from place said standing (Ended ran) next named words = absurd (none-some _ next)
+    let says : said ≡ word.maker.maker.says = (words word.maker word.is).0 from said standing (ap (λ (one : Sent). one.packet) same) in
+    ap test says ∙ word.so
+spot_words test from place said standing (Receiving st) next word words = absurd (none-some _ next)
+spot_words test from place said standing (Looking chosen) next word words = absurd (none-some _ next)
+spot_words test from place said standing (Acting entry outs o rest st) next word words = absurd (none-some _ next)
+spot_words test from place said standing (Polling poll sents st) next word words = absurd (none-some _ next)
+spot_words test from place said standing (Parting end sent rest st) next word words = absurd (none-some _ next)
+spot_words test from place said standing (Ended ran) next word words = absurd (none-some _ next)
 
--- a Hello that is said where the view maker names a rank names it
-pub hello_names : (s : Settings) (image : ℕ → List ℕ) (from to : ℕ) (said : Said) (standing : Standing) (newest : Happening) (earlier : List Happening)
-    → Says s image from to (packet.Heard (rank_of from) said standing) newest earlier → KnownAt (named_places to) (host_after s image from earlier).stand.spot
-    → is_member said.hears to ≡ true
-hello_names s image from to said standing newest earlier says named =
-    spot_names to (rank_of from) (rank_of to) said standing (host_after s image from earlier).stand.spot
-    (says_next s image from (record { to = rank_of to; packet = packet.Heard (rank_of from) said standing }) newest earlier says) named (always_words s image from earlier)
+-- a Hello that is said where what the view maker says passes a test passes it
+pub hello_words : (s : Settings) (image : ℕ → List ℕ) (from to : ℕ) (test : Said → Bool) (said : Said) (standing : Standing) (newest : Happening) (earlier : List Happening)
+    → Says s image from to (packet.Heard (rank_of from) said standing) newest earlier → KnownAt (saying_places test) (host_after s image from earlier).stand.spot
+    → test said ≡ true
+hello_words s image from to test said standing newest earlier says word =
+    spot_words test (rank_of from) (rank_of to) said standing (host_after s image from earlier).stand.spot
+    (says_next s image from (record { to = rank_of to; packet = packet.Heard (rank_of from) said standing }) newest earlier says) word (always_words s image from earlier)

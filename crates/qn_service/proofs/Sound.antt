@@ -1,5 +1,5 @@
 -- What a view maker knows of the others: no look changes what was heard, a Hello of its own is no later than its log, and its lists have 32 places.
-use Rattle.std.proofs.Common.{◌≡◌, ◌⊎◌, inl, inr, ℕ, suc, zero, ◌≤◌, ◌<◌, Bool, true, false, not, ◌&&◌, ◌||◌, ◌==◌, List, [], ◌∷◌, length, replicate, Option, None, Some, if◌then◌else◌, refl, sym, ◌∙◌, ap, subst, arith}
+use Rattle.std.proofs.Common.{◌≡◌, ◌⊎◌, inl, inr, ℕ, ◌≤◌, Bool, true, false, not, ◌&&◌, ◌||◌, List, [], ◌∷◌, length, Option, None, Some, if◌then◌else◌, refl, sym, ◌∙◌, ap, subst, arith}
 use Rattle.std.specs.Prelude.{option_map, slice_set}
 use Rattle.std.proofs.lemmas.List.{length-set}
 use Rattle.std.proofs.lemmas.Option.{none-some, same_Some}
@@ -8,27 +8,24 @@ use Rattle.qn_base.specs.declared.ids.Said.{Said}
 use Rattle.qn_base.specs.declared.ids.Standing.{Standing}
 use Rattle.qn_base.specs.declared.ids.View.{View}
 use Rattle.qn_base.specs.Members.{is_member}
-use Rattle.qn_model.specs.declared.nodelist.NodeEntry.{NodeEntry}
 use Rattle.qn_model.specs.declared.configuration.Settings.{Settings}
-use Rattle.qn_model.specs.declared.entries.What.{What}
 use Rattle.qn_model.specs.declared.packets.Packet.{Packet}
 use Rattle.qn_model.specs.declared.packets.Packet.TheVariants as packet
-use Rattle.qn_model.specs.declared.packets.Sent.{Sent}
 use Rattle.qn_model.specs.Log.{Line, now}
 use Rattle.qn_model.specs.NodeOutputs.{with_entry}
 use Rattle.qn_model.specs.Phases.{is_live, phase}
 use Rattle.qn_member.specs.Announcing.{is_beat}
-use Rattle.qn_member.specs.Maker.{Maker, after_announce, after_hello, after_tick, company_at, enough_of, has_configured, hellos_after, installed_beside, is_configured, led_by, looked, of_rank, plain, said_in, says_more, view_at}
+use Rattle.qn_member.specs.Maker.{Maker, after_announce, after_hello, after_tick, company_at, enough_of, has_configured, hellos_after, installed_beside, is_configured, led_by, looked, plain, said_in, says_more, view_at}
 use Rattle.qn_member.specs.Naming.{NamingMaker, after_named_announce, after_named_hello, after_stand, after_standing, first_naming, has_bit, is_other, is_own, is_passed_over, knows_bit, names_nobody, said_with}
 use Rattle.qn_member.specs.NamingViews.{after_by_name, after_found, after_look, after_naming_hello_due, after_plain_look, answer_at, company_now, is_naming_hello_due, is_naming_news_due, looked_by_name, seeing_names, view_announced, view_by_name}
 use Rattle.qn_live.specs.declared.words.Own.{Own}
 use Rattle.qn_live.specs.Choosing.{heard, told, view_or_tick}
 use Rattle.qn_live.specs.Greetings.{maker_begun, maker_where}
 use Rattle.qn_joined.specs.Joints.{Happening, joint_after}
-use Rattle.qn_joined.specs.Stands.{Ended, Looking, Acting, Parting, Polling, Receiving, Saying, Spot, Stand, first_stand}
+use Rattle.qn_joined.specs.Stands.{Stand, first_stand}
 use Rattle.qn_service.proofs.Made.{leading_keeps, looked_notes}
-use Rattle.qn_service.proofs.RankSteps.{Anew, CallOf, Calls, Stands, StepTo, host_after, returned_spot, step_to}
-use Rattle.qn_service.proofs.TurnSteps.{Besides, KnownAt, MakerIs, Places, StepsLead, maker_asked, maker_left, any_maker, spot_leads}
+use Rattle.qn_service.proofs.RankSteps.{Anew, Calls, Stands, StepTo, host_after, returned_spot, step_to}
+use Rattle.qn_service.proofs.TurnSteps.{Besides, KnownAt, MakerIs, Places, StepsLead, any_maker, spot_leads}
 
 -- ## A look
 

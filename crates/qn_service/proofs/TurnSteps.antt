@@ -5,12 +5,11 @@ use Rattle.std.specs.Option.{option_map_or}
 use Rattle.std.proofs.lemmas.Bool.{ltb-false}
 use Rattle.std.proofs.lemmas.Option.{none-some, same_Some}
 use Rattle.qn_base.specs.declared.calls.Call.{Call}
-use Rattle.qn_io.specs.Answered.{received_in, time_of}
+use Rattle.qn_io.specs.Answered.{time_of}
 use Rattle.qn_model.specs.declared.configuration.Settings.{Settings}
 use Rattle.qn_model.specs.declared.entries.What.{What}
 use Rattle.qn_model.specs.declared.entries.What.TheVariants as what
 use Rattle.qn_model.specs.declared.outputs.Out.{Out}
-use Rattle.qn_model.specs.declared.outputs.Out.TheVariants as out
 use Rattle.qn_model.specs.declared.packets.Packet.{Packet}
 use Rattle.qn_model.specs.declared.packets.Sent.{Sent}
 use Rattle.qn_model.specs.Log.{Line, now}
@@ -19,7 +18,6 @@ use Rattle.qn_model.specs.Phases.{is_live, phase}
 use Rattle.qn_member.specs.Naming.{NamingMaker}
 use Rattle.qn_member.specs.NamingViews.{after_look, after_naming_hello_due, answer_at}
 use Rattle.qn_safety.specs.declared.polls.Poll.{Poll}
-use Rattle.qn_safety.specs.declared.polls.Reply.{Reply}
 use Rattle.qn_safety.specs.Poller.{Poller, answer_taken}
 use Rattle.qn_live.specs.declared.live_end.LiveEnd.{LiveEnd}
 use Rattle.qn_live.specs.declared.place.Choice.{Choice}
@@ -27,7 +25,7 @@ use Rattle.qn_live.specs.declared.place.Choice.TheVariants as choice
 use Rattle.qn_live.specs.declared.words.Own.{Own}
 use Rattle.qn_live.specs.Choosing.{is_late, is_to_leave, looked, looking, own_of, ready, told, view_or_tick}
 use Rattle.qn_live.specs.Greetings.{hellos_where, is_due, maker_begun, maker_where}
-use Rattle.qn_live.specs.Performing.{end_in, noted, waits_after}
+use Rattle.qn_live.specs.Performing.{end_in, noted}
 use Rattle.qn_live.specs.Polling.{answered, answered_at, poll_due, polled}
 use Rattle.qn_live.specs.Running.{RunState}
 use Rattle.qn_live.specs.Runs.{asked_maker, greets, looked_at, taken}

@@ -1,5 +1,6 @@
 -- What running nodes say to one another, when a look hears it, and how soon. This project's profile.
 use Rattle.std.specs.Prelude.{◌≡◌, ◌≤◌, ◌<◌, ◌+◌, ◌*◌, ◌/◌, ◌==◌, ℕ, Bool, true, false, max, List, ◌∷◌, ◌++◌, length, Option, None, Some, option_map}
+use Rattle.std.specs.Option.{option_map_or}
 use Rattle.qn_base.specs.declared.ids.Mask.{Mask}
 use Rattle.qn_base.specs.declared.ids.Said.{Said}
 use Rattle.qn_base.specs.declared.ids.Standing.{Standing}
@@ -14,7 +15,8 @@ use Rattle.qn_model.specs.Log.{now}
 use Rattle.qn_model.specs.Moments.{Before}
 use Rattle.qn_model.specs.Timing.{is_safe}
 use Rattle.qn_model.specs.Wanted.{rank_of}
-use Rattle.qn_member.specs.Maker.{is_heard, is_visible}
+use Rattle.qn_member.specs.Maker.{is_heard, is_visible, of_rank, plain}
+use Rattle.qn_member.specs.NamingViews.{after_look}
 use Rattle.qn_live.specs.declared.place.Choice.{Choice}
 use Rattle.qn_live.specs.declared.place.Choice.TheVariants as choice
 use Rattle.qn_joined.specs.Joints.{Begins, Ends, Feeds, Happening, IsJoined, Lands, LandsLate, Looks, Operates, Passes, Returns, joint_after}
@@ -290,3 +292,36 @@ LooksFindSets s t =
     → 100 * find_ticks t turn post gaze + 99 * (joint_after s image older).time ≤ 99 * (joint_after s image at).time
     → (other : ℕ) → other < length s.nodes
     → is_visible look.tick look.maker.maker other ≡ is_member set other
+
+-- ## What is known of what is said
+
+-- what each look of a rank between two joints leaves to be said passes a test
+abbrev pub LeavesWords : Settings → (ℕ → List ℕ) → (Said → Bool) → ℕ → List Happening → List Happening → Type 0
+LeavesWords s image test rank old new =
+    (at : List Happening) (happening : Happening) (look : LookOf)
+    → Before old at → Before (happening ∷ at) new
+    → look_of_rank s image rank happening at ≡ Some look
+    → test (after_look look.tick look.maker).maker.says ≡ true
+
+-- One rank is near another one from an old joint to a new one, looks often, its Hellos are its own, and what it leaves to be said passes a test, as
+-- a plain Hello does, if one comes.
+pub record TellsSo (s : Settings) (t : Timing) (image : ℕ → List ℕ) (turn post gaze from to : ℕ) (test : Said → Bool) (old new : List Happening) : Type 0 where
+  pub near : IsNear s t image turn post from to old new
+  pub looks : LooksOften s image gaze from old new
+  pub own : HellosAreOwn s image post from to old new
+  pub leaves : LeavesWords s image test from old new
+  pub plain : (at : List Happening) → Before old at → Before at new
+      → packet_to_hear s image to at ≡ Some (packet.Hello (rank_of from)) → test plain ≡ true
+  pub two_node : s.two_node ≡ false
+
+-- then what each look of the other one knows it to have said last passes it
+abbrev pub LooksKnowWords : Settings → Timing → Type 0
+LooksKnowWords s t =
+    (image : ℕ → List ℕ) (turn post gaze from to : ℕ) (test : Said → Bool) (newer older at : List Happening) (happening : Happening) (look : LookOf)
+    → IsJoined s t image (newer ++ older)
+    → TellsSo s t image turn post gaze from to test older (newer ++ older)
+    → Before older at
+    → Before (happening ∷ at) (newer ++ older)
+    → look_of_rank s image to happening at ≡ Some look
+    → 100 * (hello_ticks t turn post + gaze + post + 4) + 99 * (joint_after s image older).time ≤ 99 * (joint_after s image at).time
+    → option_map_or test (of_rank look.maker.maker.said from) false ≡ true

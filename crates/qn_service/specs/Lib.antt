@@ -1,4 +1,5 @@
-pub mod Leaders
+pub mod Agreeing
+pub mod Announced
 pub mod Announcements
 pub mod Between
 pub mod Company
@@ -7,6 +8,7 @@ pub mod Heard
 pub mod Hellos
 pub mod Holders
 pub mod KeptViews
+pub mod Leaders
 pub mod Leading
 pub mod Looks
 pub mod Loops
