@@ -1,5 +1,5 @@
 -- What a running node has of the view that another one announces: that is what the other one said last.
-use Rattle.std.proofs.Common.{◌≡◌, ◌⊎◌, inl, inr, ℕ, ◌+◌, ◌*◌, ◌/◌, ◌<◌, ◌≤◌, Bool, true, false, List, ◌∷◌, ◌++◌, Option, Some, length, refl, sym, ◌∙◌, ap, subst, arith}
+use Rattle.std.proofs.Common.{◌≡◌, inr, ℕ, ◌+◌, ◌*◌, ◌<◌, ◌≤◌, List, ◌∷◌, ◌++◌, Some, refl, sym, ◌∙◌, ap, subst, arith}
 use Rattle.std.proofs.lemmas.Option.{same_Some}
 use Rattle.qn_base.specs.declared.ids.View.{View}
 use Rattle.qn_io.specs.Answered.{time_of}
@@ -11,8 +11,7 @@ use Rattle.qn_model.specs.Moments.{Before, Itself, Later}
 use Rattle.qn_model.specs.Wanted.{rank_of}
 use Rattle.qn_member.specs.Maker.{of_rank}
 use Rattle.qn_member.specs.Naming.{NamingMaker}
-use Rattle.qn_member.specs.NamingViews.{after_look}
-use Rattle.qn_safety.specs.Earlier.{before_joined, before_tail, before_then}
+use Rattle.qn_safety.specs.Earlier.{before_tail, before_then}
 use Rattle.qn_live.specs.Choosing.{told}
 use Rattle.qn_live.specs.declared.place.Choice.{Choice}
 use Rattle.qn_live.specs.Running.{RunState}

@@ -1,5 +1,5 @@
 -- A running node says the view that it announces to each other one, after its Hello.
-use Rattle.std.proofs.Common.{◌≡◌, ◌⊎◌, inl, inr, ℕ, suc, zero, ◌+◌, ◌-◌, ◌*◌, ◌/◌, ◌<◌, ◌≤◌, Bool, true, false, not, ◌==◌, List, [], ◌∷◌, ◌++◌, Option, None, Some, IfSome, length, map, filter, if◌then◌else◌, refl, sym, ◌∙◌, ap, subst, arith}
+use Rattle.std.proofs.Common.{◌≡◌, ◌⊎◌, inl, inr, ℕ, suc, zero, ◌+◌, ◌-◌, ◌<◌, ◌≤◌, Bool, true, false, not, ◌==◌, List, [], ◌∷◌, ◌++◌, Option, None, Some, IfSome, length, filter, if◌then◌else◌, refl, sym, ◌∙◌, ap, subst, arith}
 use Rattle.std.specs.List.{range_with_len}
 use Rattle.std.proofs.lemmas.Bool.{cases_eq, eqb-true, false≢true}
 use Rattle.std.proofs.lemmas.Option.{none-some, same_Some}
@@ -18,7 +18,7 @@ use Rattle.qn_model.specs.Wanted.{rank_of}
 use Rattle.qn_member.specs.Announcing.{is_beat}
 use Rattle.qn_member.specs.Naming.{NamingMaker}
 use Rattle.qn_member.specs.NamingViews.{after_naming_hello_due, is_naming_hello_due, view_announced}
-use Rattle.qn_live.specs.Greetings.{announcements, greeting_packet, hello_of, others_from, said_after, to_each, to_send}
+use Rattle.qn_live.specs.Greetings.{announcements, greeting_packet, hello_of, others_from, to_each}
 use Rattle.qn_live.specs.Running.{RunState}
 use Rattle.qn_safety.specs.Earlier.{before_tail, before_then}
 use Rattle.qn_joined.specs.Joints.{Happening, IsJoined}
@@ -31,9 +31,9 @@ use Rattle.qn_service.proofs.ByTheImage.{HeadersReadBack}
 use Rattle.qn_service.proofs.JointClocks.{ClockLaws}
 use Rattle.qn_service.proofs.RankSteps.{host_after}
 use Rattle.qn_service.proofs.SaidHellos.{up_leads}
-use Rattle.qn_service.proofs.Telling.{EachSays, IsSaying, Telling, greetings_say}
+use Rattle.qn_service.proofs.Telling.{EachSays, Telling, greetings_say}
 use Rattle.qn_service.proofs.TurnSteps.{Besides, KnownAt, Places, StepsLead, any_maker}
-use Rattle.qn_service.proofs.Waking.{clock_grows, read_of, step_of}
+use Rattle.qn_service.proofs.Waking.{read_of, step_of}
 
 -- ## What is to be said
 

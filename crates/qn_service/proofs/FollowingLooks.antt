@@ -1,22 +1,19 @@
 -- The others take the view of a leader that keeps it.
-use Rattle.std.proofs.Common.{◌≡◌, ◌⊎◌, inl, inr, ℕ, ◌+◌, ◌*◌, ◌/◌, ◌<◌, ◌≤◌, Bool, true, false, ◌&&◌, ◌||◌, ◌==◌, List, ◌∷◌, ◌++◌, Option, None, Some, length, max, if◌then◌else◌, refl, sym, ◌∙◌, ap, subst, arith}
-use Rattle.std.specs.Option.{option_or}
+use Rattle.std.proofs.Common.{◌≡◌, ◌⊎◌, inl, inr, ℕ, ◌+◌, ◌*◌, ◌<◌, ◌≤◌, Bool, true, false, ◌==◌, List, ◌∷◌, ◌++◌, Some, length, refl, sym, ◌∙◌, ap, subst, arith}
 use Rattle.std.proofs.Math.Nat.{le-max_left, le-max_right}
-use Rattle.std.proofs.lemmas.Bool.{and_from, cases_eq, eq-eqb, eqb-true, lt-ltb, or_right}
+use Rattle.std.proofs.lemmas.Bool.{and_from, cases_eq, eqb-true, lt-ltb, or_right}
 use Rattle.qn_base.specs.declared.ids.View.{View}
 use Rattle.qn_base.specs.Members.{is_member}
 use Rattle.qn_model.specs.declared.configuration.Settings.{Settings}
 use Rattle.qn_model.specs.declared.nodelist.NodeEntry.{NodeEntry}
-use Rattle.qn_model.specs.declared.packets.Packet.TheVariants as packet
 use Rattle.qn_model.specs.declared.times.Timing.{Timing}
 use Rattle.qn_model.specs.Moments.{Before, Itself, Later}
 use Rattle.qn_model.specs.Phases.{is_live, phase}
-use Rattle.qn_model.specs.Wanted.{rank_of}
 use Rattle.qn_member.specs.Maker.{has_configured, is_configured, of_rank}
 use Rattle.qn_member.specs.Naming.{NamingMaker, is_own, knows_bit}
 use Rattle.qn_member.specs.NamingViews.{after_look, is_newer_of, is_proven, looked_by_name, view_announced}
 use Rattle.qn_live.specs.Choosing.{told}
-use Rattle.qn_safety.specs.Earlier.{before_joined, before_tail, before_then}
+use Rattle.qn_safety.specs.Earlier.{before_tail, before_then}
 use Rattle.qn_joined.specs.Joints.{Happening, IsJoined, joint_after}
 use Rattle.qn_joined.specs.Moves.{EachIsOneEvent}
 use Rattle.qn_joined.specs.WorldOf.{EveryJointHasAWorld}
@@ -27,14 +24,14 @@ use Rattle.qn_service.specs.Hellos.{HasLooked}
 use Rattle.qn_service.specs.KeptViews.{AgreeOnView, FollowsView, IsUpAt, KeepsOneView, LeadsMembers, WasLeft}
 use Rattle.qn_service.specs.Leading.{leader_then}
 use Rattle.qn_service.specs.Looks.{LookOf, look_of}
-use Rattle.qn_service.specs.NextLooks.{last_look, look_of_rank}
+use Rattle.qn_service.specs.NextLooks.{look_of_rank}
 use Rattle.qn_service.specs.Serving.{clock_at}
 use Rattle.qn_service.specs.Unheard.{log_after}
 use Rattle.qn_service.proofs.AnnouncedViews.{WasHeard, view_known, was_heard}
 use Rattle.qn_service.proofs.ByTheImage.{HeadersReadBack}
 use Rattle.qn_service.proofs.Followers.{takes_view}
 use Rattle.qn_service.proofs.JointClocks.{ClockLaws}
-use Rattle.qn_service.proofs.Keeping.{ToldAt, kept_after, kept_on, kept_places, told_at}
+use Rattle.qn_service.proofs.Keeping.{ToldAt, kept_after, kept_on, told_at}
 use Rattle.qn_service.proofs.LastLooks.{LastLook, last_from}
 use Rattle.qn_service.proofs.LeaderSays.{look_announces, look_left}
 use Rattle.qn_service.proofs.Led.{FindsIt, HasCome, IsLedSince, begins, come_keeping, comes_now, led_keeping, look_come, look_led, proven, told_come, told_led}
@@ -44,7 +41,6 @@ use Rattle.qn_service.proofs.Made.{filtered}
 use Rattle.qn_service.proofs.OneView.{left_at, open_after}
 use Rattle.qn_service.proofs.RankSteps.{host_after}
 use Rattle.qn_service.proofs.Sound.{told_beat}
-use Rattle.qn_service.proofs.TurnSteps.{KnownAt}
 use Rattle.qn_service.proofs.Waking.{IsLate, clocks_of, late_still, live_of, nodes_of_look, own_of_look, ticks_before, ticks_passed, time_grows}
 
 -- ## Numbers

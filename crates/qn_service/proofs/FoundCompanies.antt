@@ -1,8 +1,8 @@
 -- A leader finds those in company whose looks agree with its own.
-use Rattle.std.proofs.Common.{◌≡◌, ◌⊎◌, inl, inr, ℕ, suc, zero, ◌+◌, ◌*◌, ◌/◌, ◌<◌, ◌≤◌, Bool, true, false, not, ◌&&◌, ◌||◌, ◌==◌, List, ◌∷◌, ◌++◌, Option, None, Some, IfSome, length, if◌then◌else◌, refl, sym, ◌∙◌, ap, subst, arith}
+use Rattle.std.proofs.Common.{◌≡◌, ℕ, suc, zero, ◌+◌, ◌*◌, ◌/◌, ◌<◌, ◌≤◌, Bool, true, false, not, ◌&&◌, ◌||◌, ◌==◌, List, ◌∷◌, ◌++◌, Option, None, Some, IfSome, length, if◌then◌else◌, refl, sym, ◌∙◌, ap, subst, arith}
 use Rattle.std.specs.Prelude.{option_and_then, option_map, bit_or, ◌^◌}
 use Rattle.std.specs.Option.{option_map_or, option_or}
-use Rattle.std.proofs.lemmas.Bool.{cases_eq, eq-eqb, eqb-true, false≢true, or_left, or_right}
+use Rattle.std.proofs.lemmas.Bool.{eq-eqb, eqb-true, false≢true, or_left, or_right}
 use Rattle.std.proofs.lemmas.Option.{same_Some}
 use Rattle.qn_base.specs.declared.ids.Mask.{Mask}
 use Rattle.qn_base.specs.declared.ids.Rank.{Rank}
@@ -14,12 +14,12 @@ use Rattle.qn_model.specs.declared.configuration.Settings.{Settings}
 use Rattle.qn_model.specs.declared.packets.Packet.{Packet}
 use Rattle.qn_model.specs.declared.packets.Packet.TheVariants as packet
 use Rattle.qn_model.specs.declared.times.Timing.{Timing}
-use Rattle.qn_model.specs.Moments.{Before, Itself, Later}
+use Rattle.qn_model.specs.Moments.{Before, Later}
 use Rattle.qn_model.specs.Wanted.{rank_of}
-use Rattle.qn_member.specs.Maker.{Maker, after_tick, company_at, followed, follows_of, follows_other, forgotten_nodes, installed_beside, is_forgotten, is_visible, leader_at, least_of, led_by, looked, of_rank, plain, ranks_that, view_at, visible_nodes}
-use Rattle.qn_member.specs.Naming.{NamingMaker, facts_of, follows_follower, followed_by_name, is_led_by_name, is_own, knows_all, knows_bit, leader_by_name, led_by_name, names_nobody}
-use Rattle.qn_member.specs.NamingViews.{after_by_name, after_found, after_look, after_naming_hello_due, after_plain_look, company_now, facts_seen, followed_now, is_naming_hello_due, looked_by_name, said_by_name, seeing_names, view_announced, view_by_name}
-use Rattle.qn_safety.specs.Earlier.{before_joined, before_tail, before_then}
+use Rattle.qn_member.specs.Maker.{Maker, company_at, followed, follows_other, installed_beside, is_visible, leader_at, least_of, led_by, looked, of_rank, ranks_that, visible_nodes}
+use Rattle.qn_member.specs.Naming.{NamingMaker, follows_follower, followed_by_name, is_led_by_name, is_own, knows_all, knows_bit, leader_by_name, led_by_name}
+use Rattle.qn_member.specs.NamingViews.{after_look, company_now, facts_seen, followed_now, looked_by_name, said_by_name, seeing_names, view_announced, view_by_name}
+use Rattle.qn_safety.specs.Earlier.{before_tail, before_then}
 use Rattle.qn_joined.specs.Joints.{Happening, IsJoined, joint_after}
 use Rattle.qn_joined.specs.Moves.{EachIsOneEvent}
 use Rattle.qn_joined.specs.WorldOf.{EveryJointHasAWorld}
@@ -34,12 +34,12 @@ use Rattle.qn_service.proofs.Company.{after_look_is}
 use Rattle.qn_service.proofs.FreshHellos.{KnowsWord, SaysSo}
 use Rattle.qn_service.proofs.JointClocks.{ClockLaws}
 use Rattle.qn_service.proofs.LogViews.{looks_know_names}
-use Rattle.qn_service.proofs.Made.{filtered, if_is, looked_notes, noted_then}
+use Rattle.qn_service.proofs.Made.{filtered, if_is, looked_notes}
 use Rattle.qn_service.proofs.NearLooks.{LastBefore, SaysSoFrom, heard_it, hello, knows, mid}
 use Rattle.qn_service.proofs.Ranks.{fails_out, passes_in}
 use Rattle.qn_service.proofs.RankSteps.{host_after}
 use Rattle.qn_service.proofs.SaidNames.{due_says}
-use Rattle.qn_service.proofs.Telling.{EachLeaves, EachSays, Telling, greetings_say, says_late}
+use Rattle.qn_service.proofs.Telling.{EachSays, Telling, greetings_say, says_late}
 use Rattle.qn_service.proofs.Waking.{IsLate, clocks_of, late_still, own_of_look, ticks_before, time_grows}
 
 -- ## Whom a node follows

@@ -1,9 +1,8 @@
 -- An announcement that a look heard is what the view maker has of its sender, while each that comes is of the same view.
-use Rattle.std.proofs.Common.{◌≡◌, ◌⊎◌, inl, inr, ℕ, ◌+◌, ◌<◌, ◌≤◌, Bool, true, false, not, ◌&&◌, List, ◌∷◌, Option, None, Some, length, if◌then◌else◌, refl, sym, ◌∙◌, ap, subst, arith}
-use Rattle.std.specs.Prelude.{option_map, slice_set}
+use Rattle.std.proofs.Common.{◌≡◌, ◌⊎◌, inl, inr, ℕ, ◌<◌, ◌≤◌, Bool, true, false, not, ◌&&◌, List, Option, None, Some, length, if◌then◌else◌, sym, ◌∙◌, ap, subst, arith}
+use Rattle.std.specs.Prelude.{slice_set}
 use Rattle.std.proofs.lemmas.Bool.{and_from, cases_eq, false≢true, lt-ltb}
 use Rattle.std.proofs.lemmas.List.{get_or-set_same}
-use Rattle.std.proofs.lemmas.Option.{none-some, same_Some}
 use Rattle.qn_base.specs.declared.ids.Said.{Said}
 use Rattle.qn_base.specs.declared.ids.Standing.{Standing}
 use Rattle.qn_base.specs.declared.ids.View.{View}
@@ -11,15 +10,13 @@ use Rattle.qn_model.specs.declared.configuration.Settings.{Settings}
 use Rattle.qn_model.specs.declared.nodelist.NodeEntry.{NodeEntry}
 use Rattle.qn_model.specs.declared.packets.Packet.{Packet}
 use Rattle.qn_model.specs.declared.packets.Packet.TheVariants as packet
-use Rattle.qn_model.specs.Log.{Line, now}
-use Rattle.qn_model.specs.Phases.{is_live, phase}
+use Rattle.qn_model.specs.Log.{Line}
 use Rattle.qn_model.specs.Wanted.{rank_of}
 use Rattle.qn_member.specs.Maker.{Maker, after_announce, after_hello, has_configured, is_configured, of_rank, plain, says_more}
-use Rattle.qn_member.specs.Naming.{NamingMaker, after_named_announce, after_named_hello, after_stand, after_standing, has_bit, is_other, knows_bit}
+use Rattle.qn_member.specs.Naming.{NamingMaker, after_named_announce, after_named_hello, after_standing, has_bit, is_other, knows_bit}
 use Rattle.qn_member.specs.NamingViews.{after_look, after_naming_hello_due, is_naming_hello_due}
 use Rattle.qn_live.specs.declared.words.Own.{Own}
 use Rattle.qn_live.specs.Choosing.{heard, told}
-use Rattle.qn_live.specs.Greetings.{maker_begun, maker_where}
 use Rattle.qn_service.proofs.FreshHellos.{set_or_same, set_other}
 use Rattle.qn_service.proofs.Keeping.{Keeping}
 use Rattle.qn_service.proofs.Sound.{IsSound, look_heard}

@@ -3,7 +3,6 @@ use Rattle.std.proofs.Common.{◌≡◌, ℕ, Bool, true, false, ◌&&◌, ◌==
 use Rattle.std.specs.Prelude.{option_and_then}
 use Rattle.std.specs.Option.{option_map_or, option_or}
 use Rattle.std.proofs.lemmas.Option.{same_Some}
-use Rattle.qn_base.specs.declared.ids.Mask.{Mask}
 use Rattle.qn_base.specs.declared.ids.View.{View}
 use Rattle.qn_base.specs.Members.{is_member}
 use Rattle.qn_model.specs.declared.configuration.Settings.{Settings}
@@ -11,7 +10,7 @@ use Rattle.qn_model.specs.Phases.{is_live, phase}
 use Rattle.qn_member.specs.Announcing.{view_to_announce}
 use Rattle.qn_member.specs.Maker.{Maker, installed_beside, leader_at, led_by, looked}
 use Rattle.qn_member.specs.Naming.{NamingMaker, is_own, knows_all, knows_bit}
-use Rattle.qn_member.specs.NamingViews.{after_by_name, after_found, after_look, after_plain_look, company_now, is_led_by, lead_since, leading, leads_itself, looked_by_name, seeing_names, view_announced, view_by_name}
+use Rattle.qn_member.specs.NamingViews.{after_by_name, after_found, after_look, after_plain_look, company_now, is_led_by, lead_since, looked_by_name, seeing_names, view_announced, view_by_name}
 use Rattle.qn_joined.specs.Joints.{Happening}
 use Rattle.qn_service.specs.KeptViews.{WasLeft}
 use Rattle.qn_service.specs.Leading.{leader_then, names_then}

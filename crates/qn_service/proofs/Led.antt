@@ -1,28 +1,21 @@
 -- A view maker whose looks find one leader knows since when, and that this announced a view since.
-use Rattle.std.proofs.Common.{◌≡◌, ◌⊎◌, inl, inr, ℕ, ◌+◌, ◌*◌, ◌^◌, ◌<◌, ◌≤◌, Bool, true, false, not, ◌&&◌, ◌||◌, ◌==◌, List, Option, None, Some, IfSome, length, if◌then◌else◌, refl, sym, ◌∙◌, ap, subst, arith}
+use Rattle.std.proofs.Common.{◌≡◌, ℕ, ◌+◌, ◌*◌, ◌^◌, ◌≤◌, Bool, true, false, not, ◌&&◌, ◌||◌, ◌==◌, Option, None, Some, IfSome, if◌then◌else◌, refl, sym, ◌∙◌, ap, arith}
 use Rattle.std.specs.Prelude.{is_some, nat_le}
 use Rattle.std.specs.Option.{option_map_or, option_or}
-use Rattle.std.proofs.lemmas.Bool.{and_from, eq-eqb, eqb-true, false≢true, le-leb, lt-ltb, or_left, or_right}
-use Rattle.std.proofs.lemmas.Option.{none-some, same_Some}
+use Rattle.std.proofs.lemmas.Bool.{and_from, eq-eqb, eqb-true, false≢true, le-leb, or_left, or_right}
 use Rattle.qn_base.specs.declared.ids.Mask.{Mask}
 use Rattle.qn_base.specs.declared.ids.Said.{Said}
-use Rattle.qn_base.specs.declared.ids.Standing.{Standing}
 use Rattle.qn_base.specs.declared.ids.View.{View}
 use Rattle.qn_base.specs.Members.{is_member}
-use Rattle.qn_model.specs.declared.configuration.Settings.{Settings}
-use Rattle.qn_model.specs.declared.nodelist.NodeEntry.{NodeEntry}
 use Rattle.qn_model.specs.declared.packets.Packet.{Packet}
 use Rattle.qn_model.specs.declared.packets.Packet.TheVariants as packet
-use Rattle.qn_model.specs.Log.{Line, now}
-use Rattle.qn_model.specs.Phases.{is_live, phase}
 use Rattle.qn_model.specs.Wanted.{rank_of}
 use Rattle.qn_member.specs.declared.lead.Lead.{Lead}
 use Rattle.qn_member.specs.Maker.{Maker, first_loops, has_configured, is_configured, is_first_due, leader_at, led_by, looked, outside_nodes, plain, says_more}
-use Rattle.qn_member.specs.Naming.{NamingMaker, after_named_announce, after_named_hello, after_stand, after_standing, has_bit, is_other, is_own, knows_bit}
+use Rattle.qn_member.specs.Naming.{NamingMaker, after_named_announce, after_named_hello, has_bit, is_other, is_own, knows_bit}
 use Rattle.qn_member.specs.NamingViews.{after_by_name, after_found, after_look, after_naming_hello_due, after_plain_look, is_led_by, is_naming_hello_due, is_proven, lead_since, leading, looked_by_name, may_begin, seeing_names}
 use Rattle.qn_live.specs.declared.words.Own.{Own}
 use Rattle.qn_live.specs.Choosing.{heard, told}
-use Rattle.qn_live.specs.Greetings.{maker_begun, maker_where}
 use Rattle.qn_service.specs.Leading.{company_then, leader_then}
 use Rattle.qn_service.proofs.Made.{if_is, looked_notes, noted_then}
 use Rattle.qn_service.proofs.OwnPast.{IsPast, due_own, found_first, told_own}

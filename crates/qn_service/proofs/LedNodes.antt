@@ -1,5 +1,5 @@
 -- Nodes whose leader keeps its view have an owner, and so have nodes whose looks agree.
-use Rattle.std.proofs.Common.{◌≡◌, ℕ, ◌+◌, ◌*◌, ◌<◌, ◌≤◌, true, List, [], ◌∷◌, ◌++◌, length, refl, sym, ◌∙◌, ap, subst}
+use Rattle.std.proofs.Common.{◌≡◌, ℕ, ◌+◌, ◌*◌, ◌≤◌, true, List, [], ◌∷◌, ◌++◌, refl, sym, ◌∙◌, ap, subst}
 use Rattle.qn_base.specs.declared.ids.Mask.{Mask}
 use Rattle.qn_base.specs.declared.ids.View.{View}
 use Rattle.qn_base.specs.Members.{is_member}
@@ -7,7 +7,7 @@ use Rattle.qn_model.specs.declared.configuration.Settings.{Settings}
 use Rattle.qn_model.specs.declared.times.Timing.{Timing}
 use Rattle.qn_model.specs.Moments.{Before, Itself, Later}
 use Rattle.qn_member.specs.Maker.{has_configured}
-use Rattle.qn_progress.specs.Pace.{Pace, outside}
+use Rattle.qn_progress.specs.Pace.{outside}
 use Rattle.qn_safety.specs.Earlier.{before_then}
 use Rattle.qn_joined.specs.Joints.{Happening, IsJoined, joint_after, runs_at}
 use Rattle.qn_service.specs.Leaders.{HasSettled, LeadersSettle, SettlesIn}

@@ -1,5 +1,5 @@
 -- What a view maker knows of its own looks is of no tick after its log, and nothing that comes changes it.
-use Rattle.std.proofs.Common.{◌≡◌, ◌⊎◌, inl, inr, ℕ, ◌≤◌, Bool, true, false, not, ◌&&◌, ◌==◌, List, [], ◌∷◌, Option, None, Some, IfSome, if◌then◌else◌, refl, sym, ◌∙◌, ap, subst, arith}
+use Rattle.std.proofs.Common.{◌≡◌, ℕ, ◌≤◌, Bool, true, false, not, ◌&&◌, ◌==◌, List, [], ◌∷◌, Option, None, Some, IfSome, if◌then◌else◌, refl, sym, ◌∙◌, ap, subst, arith}
 use Rattle.std.specs.Prelude.{option_map}
 use Rattle.std.specs.Option.{option_or}
 use Rattle.std.proofs.lemmas.Option.{none-some, same_Some}
@@ -10,19 +10,19 @@ use Rattle.qn_base.specs.declared.ids.View.{View}
 use Rattle.qn_model.specs.declared.configuration.Settings.{Settings}
 use Rattle.qn_model.specs.declared.packets.Packet.{Packet}
 use Rattle.qn_model.specs.declared.packets.Packet.TheVariants as packet
-use Rattle.qn_model.specs.Log.{Line, now}
+use Rattle.qn_model.specs.Log.{now}
 use Rattle.qn_model.specs.NodeOutputs.{with_entry}
 use Rattle.qn_model.specs.Phases.{is_live, phase}
 use Rattle.qn_member.specs.declared.change.Change.{Change}
 use Rattle.qn_member.specs.declared.lead.Lead.{Lead}
 use Rattle.qn_member.specs.Maker.{Maker, after_tick, change_at, changed, company_at, has_configured, installed_beside, is_configured, is_present, led_by, looked, plain, says_more, seeing, view_at}
 use Rattle.qn_member.specs.Naming.{NamingMaker, after_named_announce, after_named_hello, after_stand, after_standing, first_naming, has_bit, is_other, is_own, knows_bit}
-use Rattle.qn_member.specs.NamingViews.{after_by_name, after_found, after_look, after_naming_hello_due, after_plain_look, answer_at, company_now, is_led_by, is_naming_hello_due, lead_since, leading, looked_by_name, seeing_names, view_by_name}
+use Rattle.qn_member.specs.NamingViews.{after_by_name, after_found, after_look, after_naming_hello_due, after_plain_look, company_now, is_led_by, is_naming_hello_due, lead_since, leading, looked_by_name, seeing_names, view_by_name}
 use Rattle.qn_live.specs.declared.words.Own.{Own}
-use Rattle.qn_live.specs.Choosing.{heard, told, view_or_tick}
+use Rattle.qn_live.specs.Choosing.{heard, told}
 use Rattle.qn_live.specs.Greetings.{maker_begun, maker_where}
 use Rattle.qn_joined.specs.Joints.{Happening, joint_after}
-use Rattle.qn_joined.specs.Stands.{Spot, Stand, first_stand}
+use Rattle.qn_joined.specs.Stands.{Stand, first_stand}
 use Rattle.qn_service.proofs.Made.{leading_keeps, looked_notes, noted_then}
 use Rattle.qn_service.proofs.RankSteps.{Anew, Calls, Stands, StepTo, host_after, returned_spot, step_to}
 use Rattle.qn_service.proofs.TurnSteps.{Besides, KnownAt, MakerIs, Places, StepsLead, any_maker, spot_leads}

@@ -1,5 +1,5 @@
 -- A leader whose looks agree with those of the others comes to have a view of them, and keeps it.
-use Rattle.std.proofs.Common.{◌≡◌, ◌⊎◌, inl, inr, ℕ, ◌+◌, ◌*◌, ◌/◌, ◌<◌, ◌≤◌, Bool, true, false, ◌==◌, List, ◌∷◌, ◌++◌, Option, None, Some, IfSome, length, max, refl, sym, ◌∙◌, ap, subst, arith, eq-eqb}
+use Rattle.std.proofs.Common.{◌≡◌, inl, inr, ℕ, ◌+◌, ◌*◌, ◌<◌, ◌≤◌, true, false, ◌==◌, List, ◌∷◌, ◌++◌, Option, None, Some, length, refl, sym, ◌∙◌, ap, subst, arith, eq-eqb}
 use Rattle.std.specs.Prelude.{option_map}
 use Rattle.std.specs.Option.{option_map_or}
 use Rattle.std.proofs.Math.Nat.{le-max_left, le-max_right}
@@ -7,7 +7,6 @@ use Rattle.std.proofs.lemmas.Bool.{eqb-true}
 use Rattle.std.proofs.lemmas.Option.{none-some, same_Some}
 use Rattle.qn_base.specs.declared.ids.Mask.{Mask}
 use Rattle.qn_base.specs.declared.ids.View.{View}
-use Rattle.qn_base.specs.Members.{is_member}
 use Rattle.qn_model.specs.declared.configuration.Settings.{Settings}
 use Rattle.qn_model.specs.declared.times.Timing.{Timing}
 use Rattle.qn_model.specs.Moments.{Before, Itself, Later}
@@ -26,7 +25,6 @@ use Rattle.qn_service.specs.KeptViews.{KeepsOneView, KeepsView, WasLeft}
 use Rattle.qn_service.specs.Leading.{company_then, leader_then}
 use Rattle.qn_service.specs.Looks.{LookOf, look_of}
 use Rattle.qn_service.specs.NextLooks.{FoundAt, FoundBack, IsSettledAt, last_look, look_of_rank}
-use Rattle.qn_service.specs.Serving.{clock_at}
 use Rattle.qn_service.specs.Unheard.{log_after}
 use Rattle.qn_service.proofs.ByTheImage.{HeadersReadBack}
 use Rattle.qn_service.proofs.FoundCompanies.{company_found}

@@ -1,5 +1,5 @@
 -- What the looks of a running node leave its view maker with, it says from then on.
-use Rattle.std.proofs.Common.{◌≡◌, ◌⊎◌, inl, inr, ℕ, suc, zero, ◌+◌, ◌*◌, ◌<◌, ◌≤◌, Bool, true, false, List, [], ◌∷◌, ◌++◌, Option, None, Some, IfSome, length, refl, sym, ◌∙◌, ap, subst}
+use Rattle.std.proofs.Common.{◌≡◌, ℕ, ◌+◌, Bool, true, false, List, [], ◌∷◌, ◌++◌, Option, None, Some, IfSome, refl, sym, ap, subst}
 use Rattle.std.specs.Prelude.{option_map}
 use Rattle.std.specs.Option.{option_map_or}
 use Rattle.std.proofs.lemmas.Bool.{false≢true}
@@ -10,7 +10,7 @@ use Rattle.qn_model.specs.declared.packets.Packet.{Packet}
 use Rattle.qn_model.specs.declared.packets.Packet.TheVariants as packet
 use Rattle.qn_model.specs.declared.packets.Sent.{Sent}
 use Rattle.qn_model.specs.declared.times.Timing.{Timing}
-use Rattle.qn_model.specs.Log.{Line, now}
+use Rattle.qn_model.specs.Log.{now}
 use Rattle.qn_model.specs.Moments.{Before, Itself, Later}
 use Rattle.qn_model.specs.Phases.{is_live, phase}
 use Rattle.qn_model.specs.Wanted.{rank_of}
@@ -27,14 +27,13 @@ use Rattle.qn_joined.specs.WorldOf.{EveryJointHasAWorld}
 use Rattle.qn_service.specs.Hellos.{HasLooked, LooksOften, Says, StaysAwake, sent_next}
 use Rattle.qn_service.specs.Looks.{LookOf}
 use Rattle.qn_service.specs.NextLooks.{look_of_rank}
-use Rattle.qn_service.specs.Serving.{clock_at}
 use Rattle.qn_service.proofs.ByTheImage.{HeadersReadBack}
 use Rattle.qn_service.proofs.JointClocks.{ClockLaws}
 use Rattle.qn_service.proofs.RankSteps.{host_after}
 use Rattle.qn_service.proofs.SaidHellos.{up_leads}
 use Rattle.qn_service.proofs.SaidNames.{says_next}
 use Rattle.qn_service.proofs.TurnSteps.{Besides, KnownAt, Places, StepsLead, any_maker}
-use Rattle.qn_service.proofs.Waking.{IsLate, clocks_of, known_after, late_still, live_of, step_of, ticks_before, ticks_passed, time_grows}
+use Rattle.qn_service.proofs.Waking.{IsLate, clocks_of, known_after, live_of, step_of, ticks_passed}
 
 -- What is so of a view maker, and of what it is then to send.
 pub record Telling (s : Settings) (me : ℕ) : Type 1 where

@@ -1,5 +1,5 @@
 -- One rank that stays awake from joint to joint: its steps, its clock, and its looks.
-use Rattle.std.proofs.Common.{◌≡◌, ◌⊎◌, inl, inr, ℕ, ◌+◌, ◌*◌, ◌/◌, ◌<◌, ◌≤◌, Bool, true, false, ◌==◌, List, ◌∷◌, ◌++◌, Option, Some, length, refl, sym, ◌∙◌, ap, subst, arith}
+use Rattle.std.proofs.Common.{◌≡◌, ◌⊎◌, inl, inr, ℕ, ◌+◌, ◌*◌, ◌/◌, ◌<◌, ◌≤◌, true, List, ◌∷◌, ◌++◌, Some, length, refl, sym, ◌∙◌, ap, subst, arith}
 use Rattle.std.proofs.lemmas.Bool.{cases_lt, ltb-false}
 use Rattle.qn_io.specs.Answered.{time_of}
 use Rattle.qn_model.specs.declared.configuration.Settings.{Settings}
@@ -11,7 +11,7 @@ use Rattle.qn_model.specs.Phases.{is_live, phase}
 use Rattle.qn_member.specs.Naming.{NamingMaker}
 use Rattle.qn_member.specs.NamingViews.{after_look}
 use Rattle.qn_live.specs.Choosing.{told}
-use Rattle.qn_safety.specs.Earlier.{before_joined, before_tail, before_then, before_total}
+use Rattle.qn_safety.specs.Earlier.{before_tail, before_then, before_total}
 use Rattle.qn_joined.specs.Joints.{Happening, Host, IsJoined, joint_after}
 use Rattle.qn_joined.specs.Moves.{EachIsOneEvent}
 use Rattle.qn_joined.specs.Stands.{Spot, after_spot, log_at}
