@@ -34,7 +34,9 @@ use Rattle.qn_service.proofs.RankSteps.{host_after}
 use Rattle.qn_service.proofs.Sound.{always_sound}
 use Rattle.qn_service.proofs.Telling.{IsSaying, says_late}
 use Rattle.qn_service.proofs.TurnSteps.{KnownAt}
-use Rattle.qn_service.proofs.Waking.{IsLate, LastSince, before_by_clock, clock_grows, clocks_of, hello_by, last_since, late_still, look_by_call, ticks_before, ticks_passed, time_grows}
+use Rattle.qn_service.proofs.NearLooks.{still_late}
+use Rattle.qn_service.proofs.SeenLooks.{looked_late}
+use Rattle.qn_service.proofs.Waking.{IsLate, LastSince, before_by_clock, clock_grows, clocks_of, hello_by, last_since, late_fewer, look_by_call, ticks_passed, time_grows}
 
 -- ## Numbers
 
@@ -53,9 +55,6 @@ said_ticks_left beat post gaze time_first time_new late = omega (arith, late)
 
 own_ticks_left : (post gaze time_first time_new : ℕ) → 100 * (gaze + post + 4) + 99 * time_first ≤ 99 * time_new → 100 * ((gaze + 2) + post + 2) + 99 * time_first ≤ 99 * time_new
 own_ticks_left post gaze time_first time_new late = omega (arith, late)
-
-fewer : (few more time_first time_new : ℕ) → few ≤ more → 100 * more + 99 * time_first ≤ 99 * time_new → 100 * few + 99 * time_first ≤ 99 * time_new
-fewer few more time_first time_new order late = omega (arith, order, late)
 
 module _ (s : Settings) (t : Timing) (worlds : EveryJointHasAWorld s t) (one : EachIsOneEvent s t) (back : HeadersReadBack) (laws : ClockLaws)
     (image : ℕ → List ℕ) (turn post gaze : ℕ) (present : View) (from to : ℕ) (newer older : List Happening) (joined : IsJoined s t image (newer ++ older))
@@ -79,7 +78,7 @@ module _ (s : Settings) (t : Timing) (worlds : EveryJointHasAWorld s t) (one : E
       → (host_after s image to at).stand.spot ≡ Looking chosen → NoOtherView from present (packet_chosen chosen.0)
   late_comes at since until late chosen is view comes =
       (late_sends (packet.Announce (rank_of from) view) own.happening own.at own.after (before_then own.back until) own.says
-      (ticks_before (gaze + 2) post (host_after s image to own.at).clock (host_after s image to at).clock (joint_after s image older).time (joint_after s image own.at).time
+      (looked_late (gaze + 2) post (host_after s image to own.at).clock (host_after s image to at).clock (joint_after s image older).time (joint_after s image own.at).time
       (joint_after s image at).time (clocks_of s t worlds one back laws image turn to newer older joined a.hearer own.at at own.after (before_tail own.back) until).slow own.soon
       (own_ticks_left post gaze (joint_after s image older).time (joint_after s image at).time late))).sends.0.0 (rank_of from) view refl
     where
@@ -91,7 +90,7 @@ module _ (s : Settings) (t : Timing) (worlds : EveryJointHasAWorld s t) (one : E
   keeps_late base after late =
       record {
         hears = λ at order until chosen is. late_comes at (before_then after order) until
-            (late_still (gaze + post + 4) (joint_after s image older).time (joint_after s image base).time (joint_after s image at).time
+            (still_late (gaze + post + 4) (joint_after s image older).time (joint_after s image base).time (joint_after s image at).time
             (time_grows s t worlds one back laws image turn to newer older joined a.hearer base at after order until) late) chosen is;
         looks = λ at newest look order until found. tt;
       }
@@ -120,14 +119,14 @@ module _ (s : Settings) (t : Timing) (worlds : EveryJointHasAWorld s t) (one : E
         last_since s t worlds one back laws image turn to newer older joined a.hearer post at since until_at
         (ticks_passed post (host_after s image to older).clock (host_after s image to at).clock (joint_after s image older).time (joint_after s image at).time
         (clocks_of s t worlds one back laws image turn to newer older joined a.hearer older at Itself since until_at).slow
-        (fewer (post + 2) ((beat_ticks t turn + turn + turn + gaze + post + 8) + (post + turn) + 2) (joint_after s image older).time (joint_after s image at).time (omega arith) late_at))
+        (late_fewer (post + 2) ((beat_ticks t turn + turn + turn + gaze + post + 8) + (post + turn) + 2) (joint_after s image older).time (joint_after s image at).time (omega arith) late_at))
 
     mid_all : Before mid.at all
     mid_all = before_then mid.until until_at
 
     late_mid : IsLate s image (beat + turn + turn + gaze + post + 8) older mid.at
     late_mid =
-        ticks_before (beat_ticks t turn + turn + turn + gaze + post + 8) (post + turn) (host_after s image to mid.at).clock (host_after s image to at).clock (joint_after s image older).time
+        looked_late (beat_ticks t turn + turn + turn + gaze + post + 8) (post + turn) (host_after s image to mid.at).clock (host_after s image to at).clock (joint_after s image older).time
         (joint_after s image mid.at).time (joint_after s image at).time
         (clocks_of s t worlds one back laws image turn to newer older joined a.hearer mid.at at mid.since mid.until until_at).slow
         (let close = mid.close in omega (arith, close)) late_at
@@ -137,14 +136,14 @@ module _ (s : Settings) (t : Timing) (worlds : EveryJointHasAWorld s t) (one : E
         last_since s t worlds one back laws image turn from newer older joined a.sender turn mid.at mid.since mid_all
         (ticks_passed turn (host_after s image from older).clock (host_after s image from mid.at).clock (joint_after s image older).time (joint_after s image mid.at).time
         (clocks_of s t worlds one back laws image turn from newer older joined a.sender older mid.at Itself mid.since mid_all).slow
-        (fewer (turn + 2) (beat_ticks t turn + turn + turn + gaze + post + 8) (joint_after s image older).time (joint_after s image mid.at).time (omega arith) late_mid))
+        (late_fewer (turn + 2) (beat_ticks t turn + turn + turn + gaze + post + 8) (joint_after s image older).time (joint_after s image mid.at).time (omega arith) late_mid))
 
     first_all : Before first.at all
     first_all = before_then first.until mid_all
 
     late_begun : IsLate s image (beat + gaze + post + 6) older first.at
     late_begun =
-        ticks_before (beat_ticks t turn + gaze + post + 6) (turn + turn) (host_after s image from first.at).clock (host_after s image from mid.at).clock (joint_after s image older).time
+        looked_late (beat_ticks t turn + gaze + post + 6) (turn + turn) (host_after s image from first.at).clock (host_after s image from mid.at).clock (joint_after s image older).time
         (joint_after s image first.at).time (joint_after s image mid.at).time
         (clocks_of s t worlds one back laws image turn from newer older joined a.sender first.at mid.at first.since first.until mid_all).slow
         (let close = first.close in omega (arith, close))
@@ -155,14 +154,14 @@ module _ (s : Settings) (t : Timing) (worlds : EveryJointHasAWorld s t) (one : E
         hello_by s t worlds one back laws image turn from newer older joined a.sender to a.configured.1 a.apart first.at first.since first_all
         (ticks_passed (beat_ticks t turn) (host_after s image from older).clock (host_after s image from first.at).clock (joint_after s image older).time (joint_after s image first.at).time
         (clocks_of s t worlds one back laws image turn from newer older joined a.sender older first.at Itself first.since first_all).slow
-        (fewer (beat_ticks t turn + 2) (beat_ticks t turn + gaze + post + 6) (joint_after s image older).time (joint_after s image first.at).time (omega arith) late_begun))
+        (late_fewer (beat_ticks t turn + 2) (beat_ticks t turn + gaze + post + 6) (joint_after s image older).time (joint_after s image first.at).time (omega arith) late_begun))
 
     hello_all : Before (hello.happening ∷ hello.at) all
     hello_all = before_then hello.back first_all
 
     late_hello : IsLate s image (gaze + post + 4) older hello.at
     late_hello =
-        ticks_before (gaze + post + 4) (beat_ticks t turn) (host_after s image from hello.at).clock (host_after s image from first.at).clock (joint_after s image older).time
+        looked_late (gaze + post + 4) (beat_ticks t turn) (host_after s image from hello.at).clock (host_after s image from first.at).clock (joint_after s image older).time
         (joint_after s image hello.at).time (joint_after s image first.at).time
         (clocks_of s t worlds one back laws image turn from newer older joined a.sender hello.at first.at hello.after (before_tail hello.back) first_all).slow
         hello.soon
@@ -172,7 +171,7 @@ module _ (s : Settings) (t : Timing) (worlds : EveryJointHasAWorld s t) (one : E
         (host_after s image from hello.at).stand.spot
     saying =
         late_sends (packet.Heard (rank_of from) hello.said hello.standing) hello.happening hello.at hello.after hello_all hello.says
-        (fewer (gaze + 2) (gaze + post + 4) (joint_after s image older).time (joint_after s image hello.at).time (omega arith) late_hello)
+        (late_fewer (gaze + 2) (gaze + post + 4) (joint_after s image older).time (joint_after s image hello.at).time (omega arith) late_hello)
 
     said : SaidSince s image from to (packet.Announce (rank_of from) present) hello.at mid.at
     said =
@@ -227,7 +226,7 @@ module _ (s : Settings) (t : Timing) (worlds : EveryJointHasAWorld s t) (one : E
 
     late_heard : IsLate s image (gaze + post + 4) older (heard.happening ∷ heard.at)
     late_heard =
-        late_still (gaze + post + 4) (joint_after s image older).time (joint_after s image hello.at).time (joint_after s image (heard.happening ∷ heard.at)).time
+        still_late (gaze + post + 4) (joint_after s image older).time (joint_after s image hello.at).time (joint_after s image (heard.happening ∷ heard.at)).time
         (time_grows s t worlds one back laws image turn to newer older joined a.hearer hello.at (heard.happening ∷ heard.at) hello.after
         (Later heard.happening (before_then said.after (before_tail heard.after))) heard.back) late_hello
 
@@ -241,7 +240,7 @@ module _ (s : Settings) (t : Timing) (worlds : EveryJointHasAWorld s t) (one : E
           before = heard_before;
           is = heard.is;
           hears = heard.hears;
-          late = late_still (gaze + post + 4) (joint_after s image older).time (joint_after s image hello.at).time (joint_after s image heard.at).time
+          late = still_late (gaze + post + 4) (joint_after s image older).time (joint_after s image hello.at).time (joint_after s image heard.at).time
               (time_grows s t worlds one back laws image turn to newer older joined a.hearer hello.at heard.at hello.after
               (before_then said.after (before_tail heard.after)) (before_tail heard.back)) late_hello;
         }
@@ -258,7 +257,7 @@ module _ (s : Settings) (t : Timing) (worlds : EveryJointHasAWorld s t) (one : E
         subst (λ (m : NamingMaker). HasView from present m.maker) (sym is.told)
         (told_view from present (time_of made.0.made) is.own (packet_chosen is.chosen.0) is.before
         (late_comes at since until_at
-        (late_still (gaze + post + 4) (joint_after s image older).time (joint_after s image (heard.happening ∷ heard.at)).time (joint_after s image at).time
+        (still_late (gaze + post + 4) (joint_after s image older).time (joint_after s image (heard.happening ∷ heard.at)).time (joint_after s image at).time
         (time_grows s t worlds one back laws image turn to newer older joined a.hearer (heard.happening ∷ heard.at) at (Later heard.happening heard_since) heard_before until_at) late_heard)
         is.chosen is.is)
         before_has)

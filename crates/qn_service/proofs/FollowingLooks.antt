@@ -41,12 +41,11 @@ use Rattle.qn_service.proofs.Made.{filtered}
 use Rattle.qn_service.proofs.OneView.{left_at, open_after}
 use Rattle.qn_service.proofs.RankSteps.{host_after}
 use Rattle.qn_service.proofs.Sound.{told_beat}
-use Rattle.qn_service.proofs.Waking.{IsLate, clocks_of, late_still, live_of, nodes_of_look, own_of_look, ticks_before, ticks_passed, time_grows}
+use Rattle.qn_service.proofs.NearLooks.{still_late}
+use Rattle.qn_service.proofs.SeenLooks.{looked_late}
+use Rattle.qn_service.proofs.Waking.{IsLate, clocks_of, late_fewer, live_of, nodes_of_look, own_of_look, ticks_passed, time_grows}
 
 -- ## Numbers
-
-enough_late : (few more time_first time_new : ℕ) → few ≤ more → 100 * more + 99 * time_first ≤ 99 * time_new → 100 * few + 99 * time_first ≤ 99 * time_new
-enough_late few more time_first time_new order late = omega (arith, order, late)
 
 module _ (s : Settings) (t : Timing) (worlds : EveryJointHasAWorld s t) (one : EachIsOneEvent s t) (back : HeadersReadBack) (laws : ClockLaws)
     (image : ℕ → List ℕ) (turn post gaze leader : ℕ) (present : View) (newer older : List Happening) (joined : IsJoined s t image (newer ++ older))
@@ -126,12 +125,12 @@ module _ (s : Settings) (t : Timing) (worlds : EveryJointHasAWorld s t) (one : E
 
       late_announced : IsLate s image (announce_ticks t turn post gaze) older at
       late_announced =
-          enough_late (announce_ticks t turn post gaze) (follow_ticks t turn post gaze) (joint_after s image older).time (joint_after s image at).time
+          late_fewer (announce_ticks t turn post gaze) (follow_ticks t turn post gaze) (joint_after s image older).time (joint_after s image at).time
           (le-max_left (announce_ticks t turn post gaze) (4 * t.loop_ms + turn + gaze + 4)) late
 
       late_loops : IsLate s image ((gaze + 2) + (4 * t.loop_ms + turn) + 2) older at
       late_loops =
-          enough_late ((gaze + 2) + (4 * t.loop_ms + turn) + 2) (follow_ticks t turn post gaze) (joint_after s image older).time (joint_after s image at).time
+          late_fewer ((gaze + 2) + (4 * t.loop_ms + turn) + 2) (follow_ticks t turn post gaze) (joint_after s image older).time (joint_after s image at).time
           (let order = le-max_right (announce_ticks t turn post gaze) (4 * t.loop_ms + turn + gaze + 4) in loops_order gaze turn t.loop_ms (follow_ticks t turn post gaze) order) late
         where
           loops_order : (gaze turn loop ticks : ℕ) → 4 * loop + turn + gaze + 4 ≤ ticks → (gaze + 2) + (4 * loop + turn) + 2 ≤ ticks
@@ -162,7 +161,7 @@ module _ (s : Settings) (t : Timing) (worlds : EveryJointHasAWorld s t) (one : E
               told_at s t worlds one back laws image turn rank newer older joined f.awake (led_keeping leader (clock_at s image came.at rank)) came.happening came.at came.look came.after came_all
               came.is
               (led_late s t worlds one back laws image turn gaze rank leader newer older joined f.awake f.looks finds_it came.at came.after (before_tail came_all)
-              (enough_late (gaze + 2) (gaze + post + 4) (joint_after s image older).time (joint_after s image came.at).time (omega arith) came.late))
+              (late_fewer (gaze + 2) (gaze + post + 4) (joint_after s image older).time (joint_after s image came.at).time (omega arith) came.late))
 
           nodes : it.before.maker.nodes ≡ s.nodes
           nodes =
@@ -257,14 +256,14 @@ module _ (s : Settings) (t : Timing) (worlds : EveryJointHasAWorld s t) (one : E
         follower.looks at since until
         (ticks_passed gaze (host_after s image rank older).clock (host_after s image rank at).clock (joint_after s image older).time (joint_after s image at).time
         (clocks_of s t worlds one back laws image turn rank newer older joined follower.awake older at Itself since until).slow
-        (enough_late (gaze + 2) (follow_ticks t turn post gaze + gaze + 2) (joint_after s image older).time (joint_after s image at).time (more_gaze (follow_ticks t turn post gaze) gaze) late))
+        (late_fewer (gaze + 2) (follow_ticks t turn post gaze + gaze + 2) (joint_after s image older).time (joint_after s image at).time (more_gaze (follow_ticks t turn post gaze) gaze) late))
       where
         more_gaze : (ticks gaze : ℕ) → gaze + 2 ≤ ticks + gaze + 2
         more_gaze ticks gaze = omega arith
 
     late_looked : IsLate s image (follow_ticks t turn post gaze) older looked.at
     late_looked =
-        ticks_before (follow_ticks t turn post gaze) gaze (host_after s image rank looked.at).clock (host_after s image rank at).clock (joint_after s image older).time
+        looked_late (follow_ticks t turn post gaze) gaze (host_after s image rank looked.at).clock (host_after s image rank at).clock (joint_after s image older).time
         (joint_after s image looked.at).time (joint_after s image at).time
         (clocks_of s t worlds one back laws image turn rank newer older joined follower.awake looked.at at looked.after (before_tail looked.back) until).slow looked.soon late
 
@@ -275,7 +274,7 @@ module _ (s : Settings) (t : Timing) (worlds : EveryJointHasAWorld s t) (one : E
 
     late_from : (h : List Happening) → Before looked.at h → Before h (newer ++ older) → IsLate s image (follow_ticks t turn post gaze) older h
     late_from h order before =
-        late_still (follow_ticks t turn post gaze) (joint_after s image older).time (joint_after s image looked.at).time (joint_after s image h).time
+        still_late (follow_ticks t turn post gaze) (joint_after s image older).time (joint_after s image looked.at).time (joint_after s image h).time
         (time_grows s t worlds one back laws image turn rank newer older joined follower.awake looked.at h looked.after order before) late_looked
 
     last_leaves : (after_look last.look.tick last.look.maker).maker.view ≡ Some present

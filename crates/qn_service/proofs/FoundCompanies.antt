@@ -33,14 +33,16 @@ use Rattle.qn_service.proofs.ByTheImage.{HeadersReadBack}
 use Rattle.qn_service.proofs.Company.{after_look_is}
 use Rattle.qn_service.proofs.FreshHellos.{KnowsWord, SaysSo}
 use Rattle.qn_service.proofs.JointClocks.{ClockLaws}
+use Rattle.qn_service.proofs.Least.{rank_again}
 use Rattle.qn_service.proofs.LogViews.{looks_know_names}
 use Rattle.qn_service.proofs.Made.{filtered, if_is, looked_notes}
-use Rattle.qn_service.proofs.NearLooks.{LastBefore, SaysSoFrom, heard_it, hello, knows, mid}
+use Rattle.qn_service.proofs.NearLooks.{LastBefore, SaysSoFrom, heard_it, hello, knows, mid, still_late}
 use Rattle.qn_service.proofs.Ranks.{fails_out, passes_in}
 use Rattle.qn_service.proofs.RankSteps.{host_after}
 use Rattle.qn_service.proofs.SaidNames.{due_says}
 use Rattle.qn_service.proofs.Telling.{EachSays, Telling, greetings_say, says_late}
-use Rattle.qn_service.proofs.Waking.{IsLate, clocks_of, late_still, own_of_look, ticks_before, time_grows}
+use Rattle.qn_service.proofs.SeenLooks.{looked_late}
+use Rattle.qn_service.proofs.Waking.{IsLate, clocks_of, own_of_look, time_grows}
 
 -- ## Whom a node follows
 
@@ -52,10 +54,6 @@ FollowsOnly leader said = IfSome said.follows (λ rank. rank.0 ≡ leader)
 follows_leader : (leader : ℕ) (followed least : Option ℕ) → option_or followed least ≡ Some leader → IfSome (option_map (λ rank. record { 0 = rank }) followed) (λ (rank : Rank). rank.0 ≡ leader)
 follows_leader leader None least leads = tt
 follows_leader leader (Some rank) least leads = same_Some rank leader leads
-
-ranked_back : (followed : Option ℕ) → option_map (λ (rank : Rank). rank.0) (option_map (λ rank. record { 0 = rank }) followed) ≡ followed
-ranked_back None = refl
-ranked_back (Some rank) = refl
 
 -- after a look a node says that it follows its leader, or nobody
 look_follows : (tick leader : ℕ) (m : NamingMaker) → is_own m knows_bit ≡ true → leader_then tick m ≡ Some leader → FollowsOnly leader (after_look tick m).maker.says
@@ -74,7 +72,7 @@ look_follows tick leader m knows leads =
 
     led : option_or (followed_now (seeing_names tick m)) (least_of m.maker (visible_nodes tick m.maker)) ≡ Some leader
     led =
-        ap (λ o. option_or o (least_of m.maker (visible_nodes tick m.maker))) (sym (ranked_back (followed_now (seeing_names tick m))))
+        ap (λ o. option_or o (least_of m.maker (visible_nodes tick m.maker))) (sym (rank_again (followed_now (seeing_names tick m))))
         ∙ ap led_by (sym (looked_notes tick m))
         ∙ sym (if_is true (is_own m knows_bit) (led_by (looked_by_name tick m).maker) (leader_at (looked tick m.maker)) knows)
         ∙ leads
@@ -133,7 +131,7 @@ module _ (set : Mask) (tick : ℕ) (m : NamingMaker) (knows : is_own m knows_bit
       ap (λ o. option_or o (least_of m.maker (visible_nodes tick m.maker)))
       (sym (if_is true (knows_all (seeing_names tick m) (seeing_names tick m).maker.seen) (followed_by_name (seeing_names tick m) (facts_seen (seeing_names tick m)))
       (followed (seeing_names tick m).maker (seeing_names tick m).maker.seen) names)
-      ∙ sym (ranked_back (followed_now (seeing_names tick m))))
+      ∙ sym (rank_again (followed_now (seeing_names tick m))))
       ∙ ap led_by (sym (looked_notes tick m))
       ∙ sym (if_is true (is_own m knows_bit) (led_by (looked_by_name tick m).maker) (leader_at (looked tick m.maker)) knows)
       ∙ leads
@@ -262,7 +260,7 @@ module _ (s : Settings) (t : Timing) (worlds : EveryJointHasAWorld s t) (one : E
       hears_so : (h : List Happening) → Before (came.happening ∷ came.at) h → Before h all → SaysSo rank (FollowsOnly leader) (packet_to_hear s image leader h)
       hears_so h order back_h said standing comes =
           says_so said standing own.happening own.at own.after (before_then own.back back_h) own.says
-          (ticks_before (gaze + 2) post (host_after s image leader own.at).clock (host_after s image leader h).clock (joint_after s image older).time
+          (looked_late (gaze + 2) post (host_after s image leader own.at).clock (host_after s image leader h).clock (joint_after s image older).time
           (joint_after s image own.at).time (joint_after s image h).time
           (clocks_of s t worlds one back laws image turn leader newer older joined following.near.hearer own.at h own.after (before_tail own.back) back_h).slow own.soon
           (said_more gaze post (joint_after s image older).time (joint_after s image h).time late_then))
@@ -272,7 +270,7 @@ module _ (s : Settings) (t : Timing) (worlds : EveryJointHasAWorld s t) (one : E
 
           late_then : IsLate s image (gaze + post + 4) older h
           late_then =
-              late_still (gaze + post + 4) (joint_after s image older).time (joint_after s image last.at).time (joint_after s image h).time
+              still_late (gaze + post + 4) (joint_after s image older).time (joint_after s image last.at).time (joint_after s image h).time
               (time_grows s t worlds one back laws image turn leader newer older joined following.near.hearer last.at h last.after
               (before_then (before_tail came.after) (before_tail order)) back_h) late_said
 

@@ -19,10 +19,8 @@ use Rattle.qn_service.proofs.Keeping.{KeepsOn, ToldAt, kept_after, kept_on, kept
 use Rattle.qn_service.proofs.Led.{FindsIt, IsLedSince, led_keeping, led_later, look_first_led, told_led}
 use Rattle.qn_service.proofs.RankSteps.{host_after}
 use Rattle.qn_service.proofs.TurnSteps.{KnownAt}
-use Rattle.qn_service.proofs.Waking.{IsLate, LastSince, clock_grows, clocks_of, last_since, loop_of_look, past_of_look, tick_of_look, ticks_before, ticks_passed}
-
-late_fewer : (few more time_first time_new : ℕ) → few ≤ more → 100 * more + 99 * time_first ≤ 99 * time_new → 100 * few + 99 * time_first ≤ 99 * time_new
-late_fewer few more time_first time_new order late = omega (arith, order, late)
+use Rattle.qn_service.proofs.SeenLooks.{looked_late}
+use Rattle.qn_service.proofs.Waking.{IsLate, LastSince, clock_grows, clocks_of, last_since, late_fewer, loop_of_look, past_of_look, tick_of_look, ticks_passed}
 
 -- at a look the leader led for four loops
 pub record LedLong (s : Settings) (t : Timing) (image : ℕ → List ℕ) (rank leader : ℕ) (at : List Happening) (look : LookOf) : Type 0 where
@@ -92,7 +90,7 @@ module _ (s : Settings) (t : Timing) (worlds : EveryJointHasAWorld s t) (one : E
 
       late_first : IsLate s image (gaze + 2) older first.at
       late_first =
-          ticks_before (gaze + 2) (4 * t.loop_ms + turn) (host_after s image rank first.at).clock (host_after s image rank at).clock (joint_after s image older).time (joint_after s image first.at).time
+          looked_late (gaze + 2) (4 * t.loop_ms + turn) (host_after s image rank first.at).clock (host_after s image rank at).clock (joint_after s image older).time (joint_after s image first.at).time
           (joint_after s image at).time (clocks_of s t worlds one back laws image turn rank newer older joined awake first.at at first.since first.until until_at).slow
           (let close = first.close in omega (arith, close)) late
 

@@ -120,7 +120,7 @@ starts_before : (beat turn post to_old to_new time_old time_new : ℕ)
     → to_old / 100 + post < to_new / 100
 starts_before beat turn post to_old to_new time_old time_new slow late = omega (arith, slow, late)
 
-ticks_grow : (old new : ℕ) → old ≤ new → old / 100 ≤ new / 100
+pub ticks_grow : (old new : ℕ) → old ≤ new → old / 100 ≤ new / 100
 ticks_grow old new grows = omega (arith, grows)
 
 pub later_time : (clock_old clock_new time_old time_new : ℕ) → clock_new + 101 * time_old ≤ 101 * time_new + clock_old → clock_old ≤ clock_new → time_old ≤ time_new

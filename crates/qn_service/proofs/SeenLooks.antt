@@ -42,7 +42,7 @@ use Rattle.qn_service.proofs.TurnSteps.{KnownAt, any_maker, spot_looked}
 -- ## Numbers
 
 -- a joint after so much of a clock is not before the time that this takes
-looked_late : (ticks gaze from_old from_new time_first time_old time_new : ℕ) → 99 * time_new + from_old ≤ from_new + 99 * time_old → from_new / 100 ≤ from_old / 100 + gaze
+pub looked_late : (ticks gaze from_old from_new time_first time_old time_new : ℕ) → 99 * time_new + from_old ≤ from_new + 99 * time_old → from_new / 100 ≤ from_old / 100 + gaze
     → 100 * (ticks + gaze + 2) + 99 * time_first ≤ 99 * time_new → 100 * ticks + 99 * time_first ≤ 99 * time_old
 looked_late ticks gaze from_old from_new time_first time_old time_new slow soon late = omega (arith, slow, soon, late)
 

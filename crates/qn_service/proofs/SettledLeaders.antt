@@ -37,10 +37,9 @@ use Rattle.qn_service.proofs.Made.{filtered}
 use Rattle.qn_service.proofs.NextLooks.{companies_settle, looks_follow}
 use Rattle.qn_service.proofs.OneView.{next_left, open_after}
 use Rattle.qn_service.proofs.RankSteps.{host_after}
-use Rattle.qn_service.proofs.Waking.{IsLate, LastSince, clock_grows, clocks_of, last_since, late_still, live_of, loop_of_look, own_of_look, past_of_look, tick_of_look, ticks_before, ticks_passed, time_grows}
-
-late_fewer : (few more time_first time_new : ℕ) → few ≤ more → 100 * more + 99 * time_first ≤ 99 * time_new → 100 * few + 99 * time_first ≤ 99 * time_new
-late_fewer few more time_first time_new order late = omega (arith, order, late)
+use Rattle.qn_service.proofs.NearLooks.{still_late}
+use Rattle.qn_service.proofs.SeenLooks.{looked_late}
+use Rattle.qn_service.proofs.Waking.{IsLate, LastSince, clock_grows, clocks_of, last_since, late_fewer, live_of, loop_of_look, own_of_look, past_of_look, tick_of_look, ticks_passed, time_grows}
 
 found_order : (found loop gaze turn ticks : ℕ) → found + loop + gaze + gaze + turn + 4 ≤ ticks → (found + gaze + 2) + (loop + gaze + turn) + 2 ≤ ticks
 found_order found loop gaze turn ticks order = omega (arith, order)
@@ -84,7 +83,7 @@ module _ (s : Settings) (t : Timing) (worlds : EveryJointHasAWorld s t) (one : E
       (late : IsLate s image (found_ticks t turn post gaze) older base) where
     late_from : (h : List Happening) → Before base h → Before h all → IsLate s image (found_ticks t turn post gaze) older h
     late_from h order until =
-        late_still (found_ticks t turn post gaze) (joint_after s image older).time (joint_after s image base).time (joint_after s image h).time
+        still_late (found_ticks t turn post gaze) (joint_after s image older).time (joint_after s image base).time (joint_after s image h).time
         (time_grows s t worlds one back laws image turn leader newer older joined joins.awake base h since order until) late
 
     found_back : (h : List Happening) → Before (first ∷ base) h → Before h all → FoundBack s image leader set begun.tick h
@@ -144,7 +143,7 @@ module _ (s : Settings) (t : Timing) (worlds : EveryJointHasAWorld s t) (one : E
 
     late_ago : IsLate s image (found_ticks t turn post gaze + gaze + 2) older loop_ago.at
     late_ago =
-        ticks_before (found_ticks t turn post gaze + gaze + 2) (t.loop_ms + gaze + turn) (host_after s image leader loop_ago.at).clock (host_after s image leader at).clock
+        looked_late (found_ticks t turn post gaze + gaze + 2) (t.loop_ms + gaze + turn) (host_after s image leader loop_ago.at).clock (host_after s image leader at).clock
         (joint_after s image older).time (joint_after s image loop_ago.at).time (joint_after s image at).time
         (clocks_of s t worlds one back laws image turn leader newer older joined joins.awake loop_ago.at at loop_ago.since loop_ago.until until).slow
         (let close = loop_ago.close in omega (arith, close)) late_found
@@ -159,7 +158,7 @@ module _ (s : Settings) (t : Timing) (worlds : EveryJointHasAWorld s t) (one : E
 
     late_begun : IsLate s image (found_ticks t turn post gaze) older begun.at
     late_begun =
-        ticks_before (found_ticks t turn post gaze) gaze (host_after s image leader begun.at).clock (host_after s image leader loop_ago.at).clock (joint_after s image older).time
+        looked_late (found_ticks t turn post gaze) gaze (host_after s image leader begun.at).clock (host_after s image leader loop_ago.at).clock (joint_after s image older).time
         (joint_after s image begun.at).time (joint_after s image loop_ago.at).time
         (clocks_of s t worlds one back laws image turn leader newer older joined joins.awake begun.at loop_ago.at begun.after (before_tail begun.back) ago_all).slow begun.soon late_ago
 
@@ -187,9 +186,9 @@ module _ (s : Settings) (t : Timing) (worlds : EveryJointHasAWorld s t) (one : E
 
     late_last : IsLate s image ((gaze + 2) + (4 * t.loop_ms + turn) + 2) older last.at
     late_last =
-        late_still ((gaze + 2) + (4 * t.loop_ms + turn) + 2) (joint_after s image older).time (joint_after s image looked.at).time (joint_after s image last.at).time
+        still_late ((gaze + 2) + (4 * t.loop_ms + turn) + 2) (joint_after s image older).time (joint_after s image looked.at).time (joint_after s image last.at).time
         (time_grows s t worlds one back laws image turn leader newer older joined joins.awake looked.at last.at looked.after last.after (before_tail last_all))
-        (ticks_before ((gaze + 2) + (4 * t.loop_ms + turn) + 2) gaze (host_after s image leader looked.at).clock (host_after s image leader at).clock (joint_after s image older).time
+        (looked_late ((gaze + 2) + (4 * t.loop_ms + turn) + 2) gaze (host_after s image leader looked.at).clock (host_after s image leader at).clock (joint_after s image older).time
         (joint_after s image looked.at).time (joint_after s image at).time
         (clocks_of s t worlds one back laws image turn leader newer older joined joins.awake looked.at at looked.after (before_tail looked.back) until).slow looked.soon late_led)
 
@@ -207,9 +206,9 @@ module _ (s : Settings) (t : Timing) (worlds : EveryJointHasAWorld s t) (one : E
 
     late_finds : IsLate s image (found_ticks t turn post gaze) older last.at
     late_finds =
-        late_still (found_ticks t turn post gaze) (joint_after s image older).time (joint_after s image looked.at).time (joint_after s image last.at).time
+        still_late (found_ticks t turn post gaze) (joint_after s image older).time (joint_after s image looked.at).time (joint_after s image last.at).time
         (time_grows s t worlds one back laws image turn leader newer older joined joins.awake looked.at last.at looked.after last.after (before_tail last_all))
-        (ticks_before (found_ticks t turn post gaze) gaze (host_after s image leader looked.at).clock (host_after s image leader at).clock (joint_after s image older).time
+        (looked_late (found_ticks t turn post gaze) gaze (host_after s image leader looked.at).clock (host_after s image leader at).clock (joint_after s image older).time
         (joint_after s image looked.at).time (joint_after s image at).time
         (clocks_of s t worlds one back laws image turn leader newer older joined joins.awake looked.at at looked.after (before_tail looked.back) until).slow looked.soon
         (late_fewer (found_ticks t turn post gaze + gaze + 2) ((found_ticks t turn post gaze + gaze + 2) + (t.loop_ms + gaze + turn) + 2) (joint_after s image older).time (joint_after s image at).time
@@ -250,7 +249,7 @@ module _ (s : Settings) (t : Timing) (worlds : EveryJointHasAWorld s t) (one : E
 
       late_on : (h : List Happening) → Before at h → Before h all → IsLate s image (found_ticks t turn post gaze) older h
       late_on h order before =
-          late_still (found_ticks t turn post gaze) (joint_after s image older).time (joint_after s image last.at).time (joint_after s image h).time
+          still_late (found_ticks t turn post gaze) (joint_after s image older).time (joint_after s image last.at).time (joint_after s image h).time
           (time_grows s t worlds one back laws image turn leader newer older joined joins.awake last.at h last_since_older (before_then (before_tail last.back) order) before) late_finds
 
       keeps_at : (h : List Happening) (newest : Happening) (look : LookOf) → Before at h → Before (newest ∷ h) all → look_of_rank s image leader newest h ≡ Some look

@@ -25,7 +25,7 @@ use Rattle.qn_service.proofs.ByTheImage.{HeadersReadBack}
 use Rattle.qn_service.proofs.FreshHellos.{LookIs, look_is, sound_before}
 use Rattle.qn_service.proofs.JointClocks.{ClockLaws, ClocksRun, ReturnOf, UpStep, clocks_run, read_at, up_step}
 use Rattle.qn_service.proofs.NearHellos.{makers_loop, old_world}
-use Rattle.qn_service.proofs.NearLooks.{early_besides, early_in, early_leads, early_out, early_places}
+use Rattle.qn_service.proofs.NearLooks.{early_besides, early_in, early_leads, early_out, early_places, later_time, ticks_grow}
 use Rattle.qn_service.proofs.OwnPast.{IsPast, always_own, own_places, past_kept, past_later, told_own}
 use Rattle.qn_service.proofs.RankSteps.{host_after, returned_spot}
 use Rattle.qn_service.proofs.SaidHellos.{hello_said, look_made, some_loop, up_leads}
@@ -38,28 +38,13 @@ use Rattle.qn_service.proofs.TurnSteps.{Besides, KnownAt, MakerAt, Places, Steps
 
 -- ## Numbers
 
-ticks_grow : (old new : ℕ) → old ≤ new → old / 100 ≤ new / 100
-ticks_grow old new grows = omega (arith, grows)
-
-time_order : (clock_old clock_new time_old time_new : ℕ) → clock_new + 101 * time_old ≤ 101 * time_new + clock_old → clock_old ≤ clock_new → time_old ≤ time_new
-time_order clock_old clock_new time_old time_new fast grows = omega (arith, fast, grows)
-
 -- so many ticks of a clock have passed once true time did
 pub ticks_passed : (ticks clock_old clock_new time_old time_new : ℕ) → 99 * time_new + clock_old ≤ clock_new + 99 * time_old
     → 100 * (ticks + 2) + 99 * time_old ≤ 99 * time_new → clock_old / 100 + ticks < clock_new / 100
 ticks_passed ticks clock_old clock_new time_old time_new slow late = omega (arith, slow, late)
 
--- the joint so few ticks before is late by as much less
-pub ticks_before : (ticks passed clock_old clock_new time_first time_old time_new : ℕ) → 99 * time_new + clock_old ≤ clock_new + 99 * time_old
-    → clock_new / 100 ≤ clock_old / 100 + passed
-    → 100 * (ticks + passed + 2) + 99 * time_first ≤ 99 * time_new → 100 * ticks + 99 * time_first ≤ 99 * time_old
-ticks_before ticks passed clock_old clock_new time_first time_old time_new slow soon late = omega (arith, slow, soon, late)
-
-pub late_still : (ticks time_first time_old time_new : ℕ) → time_old ≤ time_new → 100 * ticks + 99 * time_first ≤ 99 * time_old → 100 * ticks + 99 * time_first ≤ 99 * time_new
-late_still ticks time_first time_old time_new order late = omega (arith, order, late)
-
-pub late_less : (ticks more time_first time_new : ℕ) → 100 * (ticks + more) + 99 * time_first ≤ 99 * time_new → 100 * ticks + 99 * time_first ≤ 99 * time_new
-late_less ticks more time_first time_new late = omega (arith, late)
+pub late_fewer : (few more time_first time_new : ℕ) → few ≤ more → 100 * more + 99 * time_first ≤ 99 * time_new → 100 * few + 99 * time_first ≤ 99 * time_new
+late_fewer few more time_first time_new order late = omega (arith, order, late)
 
 -- a joint is so late after another one
 abbrev pub IsLate : Settings → (ℕ → List ℕ) → ℕ → List Happening → List Happening → Type 0
@@ -88,7 +73,7 @@ module _ (s : Settings) (t : Timing) (worlds : EveryJointHasAWorld s t) (one : E
   pub time_grows : (a b : List Happening) → Before older a → Before a b → Before b all → (joint_after s image a).time ≤ (joint_after s image b).time
   time_grows a b since order until =
       let run = clocks_of a b since order until in
-      time_order (host_after s image rank a).clock (host_after s image rank b).clock (joint_after s image a).time (joint_after s image b).time run.fast run.grows
+      later_time (host_after s image rank a).clock (host_after s image rank b).clock (joint_after s image a).time (joint_after s image b).time run.fast run.grows
 
   pub read_of : (at : List Happening) → Before older at → Before at all → now (log_after s image at rank) ≤ clock_at s image at rank
   read_of = read_at s t image rank older all has.events it.events laws it.trace joined.may (λ h a b. (awake h a b).is)
