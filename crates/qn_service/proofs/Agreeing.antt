@@ -17,15 +17,15 @@ use Rattle.qn_service.proofs.Made.{if_is, looked_notes, noted_then}
 
 -- ## Sets
 
-abbrev mask_of : ℕ → Mask
+abbrev pub mask_of : ℕ → Mask
 mask_of n = record { 0 = n }
 
 -- the ranks below a number that pass a test
-abbrev set_that : (ℕ → Bool) → ℕ → Mask
+abbrev pub set_that : (ℕ → Bool) → ℕ → Mask
 set_that test count = mask_of (ranks_that test count)
 
 -- tests that agree below a number make the same set
-set_alike : (one other : ℕ → Bool) (count : ℕ) → ((rank : ℕ) → rank < count → one rank ≡ other rank)
+pub set_alike : (one other : ℕ → Bool) (count : ℕ) → ((rank : ℕ) → rank < count → one rank ≡ other rank)
     → set_that one count ≡ set_that other count
 unfolding ranks_that
 set_alike one other zero alike = refl

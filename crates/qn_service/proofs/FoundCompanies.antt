@@ -1,6 +1,6 @@
 -- A leader finds those in company whose looks agree with its own.
-use Rattle.std.proofs.Common.{◌≡◌, ℕ, suc, zero, ◌+◌, ◌*◌, ◌/◌, ◌<◌, ◌≤◌, Bool, true, false, not, ◌&&◌, ◌||◌, ◌==◌, List, ◌∷◌, ◌++◌, Option, None, Some, IfSome, length, if◌then◌else◌, refl, sym, ◌∙◌, ap, subst, arith}
-use Rattle.std.specs.Prelude.{option_and_then, option_map, bit_or, ◌^◌}
+use Rattle.std.proofs.Common.{◌≡◌, ℕ, ◌+◌, ◌*◌, ◌/◌, ◌<◌, ◌≤◌, Bool, true, false, not, ◌&&◌, ◌||◌, ◌==◌, List, ◌∷◌, ◌++◌, Option, None, Some, IfSome, length, if◌then◌else◌, refl, sym, ◌∙◌, ap, subst, arith}
+use Rattle.std.specs.Prelude.{option_and_then, option_map}
 use Rattle.std.specs.Option.{option_map_or, option_or}
 use Rattle.std.proofs.lemmas.Bool.{eq-eqb, eqb-true, false≢true, or_left, or_right}
 use Rattle.std.proofs.lemmas.Option.{same_Some}
@@ -16,7 +16,7 @@ use Rattle.qn_model.specs.declared.packets.Packet.TheVariants as packet
 use Rattle.qn_model.specs.declared.times.Timing.{Timing}
 use Rattle.qn_model.specs.Moments.{Before, Later}
 use Rattle.qn_model.specs.Wanted.{rank_of}
-use Rattle.qn_member.specs.Maker.{Maker, company_at, followed, follows_other, installed_beside, is_visible, leader_at, least_of, led_by, looked, of_rank, ranks_that, visible_nodes}
+use Rattle.qn_member.specs.Maker.{Maker, company_at, followed, follows_other, installed_beside, is_visible, leader_at, least_of, led_by, looked, of_rank, visible_nodes}
 use Rattle.qn_member.specs.Naming.{NamingMaker, follows_follower, followed_by_name, is_led_by_name, is_own, knows_all, knows_bit, leader_by_name, led_by_name}
 use Rattle.qn_member.specs.NamingViews.{after_look, company_now, facts_seen, followed_now, looked_by_name, said_by_name, seeing_names, view_announced, view_by_name}
 use Rattle.qn_safety.specs.Earlier.{before_tail, before_then}
@@ -29,6 +29,7 @@ use Rattle.qn_service.specs.Leading.{company_then, leader_then, names_then}
 use Rattle.qn_service.specs.Looks.{LookOf, look_of}
 use Rattle.qn_service.specs.NextLooks.{look_of_rank}
 use Rattle.qn_service.specs.Serving.{clock_at}
+use Rattle.qn_service.proofs.Agreeing.{set_alike}
 use Rattle.qn_service.proofs.ByTheImage.{HeadersReadBack}
 use Rattle.qn_service.proofs.Company.{after_look_is}
 use Rattle.qn_service.proofs.FreshHellos.{KnowsWord, SaysSo}
@@ -101,14 +102,6 @@ follows_telling s leader rank =
 
 -- ## Whom a leader leads
 
--- the sets of the ranks that pass two tests that agree are the same
-ranks_same : (one other : ℕ → Bool) (count : ℕ) → ((rank : ℕ) → rank < count → one rank ≡ other rank) → ranks_that one count ≡ ranks_that other count
-unfolding ranks_that
-ranks_same one other zero same = refl
-ranks_same one other (suc count) same =
-    ap (λ (b : Bool). if b then bit_or (ranks_that one count) (2 ^ count) else ranks_that one count) (same count (omega arith))
-    ∙ ap (λ n. if other count then bit_or n (2 ^ count) else n) (ranks_same one other count (λ rank under. same rank (omega (arith, under))))
-
 -- a node of which the last Hello says so follows no other than the leader
 none_other : (m : Maker) (rank : ℕ) (said : Said) → of_rank m.said rank ≡ Some said → FollowsOnly m.me said → follows_other m rank ≡ false
 none_other m rank said known follows =
@@ -165,9 +158,7 @@ module _ (set : Mask) (tick : ℕ) (m : NamingMaker) (knows : is_own m knows_bit
       by_visible false is = by_own (rank == m.maker.me) refl is (fails_out (is_visible tick m.maker) (length m.maker.nodes) rank is)
 
   led_is : led_by_name (seeing_names tick m) ≡ visible_nodes tick m.maker
-  led_is =
-      ap (λ n. record { 0 = n })
-      (ranks_same (is_led_by_name (seeing_names tick m)) (is_visible tick m.maker) (length m.maker.nodes) (λ rank under. led_so rank ∙ visible_so rank under))
+  led_is = set_alike (is_led_by_name (seeing_names tick m)) (is_visible tick m.maker) (length m.maker.nodes) (λ rank under. led_so rank ∙ visible_so rank under)
 
   pub company_is : company_then tick m ≡ set
   company_is =
