@@ -24,15 +24,15 @@ use Rattle.qn_service.specs.Loops.{HasLoop, LooksByTheImage, LooksByTheImageAgai
 use Rattle.qn_service.proofs.Timing.{WorksAt, first_works, look_works, spot_works}
 
 -- what a disk call took, where it landed: the header, where the host waits for that
-record IsTook (s : Settings) (t : Timing) (rank : ℕ) (host : Host) (bytes : List ℕ) : Type 0 where
-  disk : option_map_or is_disk (waits_for s rank host) false ≡ true
-  header : waits_for s rank host ≡ Some (call.Read 0 [] true) → bytes ≡ header_bytes (length s.nodes) t
+pub record IsTook (s : Settings) (t : Timing) (rank : ℕ) (host : Host) (bytes : List ℕ) : Type 0 where
+  pub disk : option_map_or is_disk (waits_for s rank host) false ≡ true
+  pub header : waits_for s rank host ≡ Some (call.Read 0 [] true) → bytes ≡ header_bytes (length s.nodes) t
 
-record HostWorks (s : Settings) (t : Timing) (rank : ℕ) (host : Host) : Type 0 where
-  took : (bytes : List ℕ) → host.took ≡ Some bytes → IsTook s t rank host bytes
-  at : WorksAt s t host.stand.spot
+pub record HostWorks (s : Settings) (t : Timing) (rank : ℕ) (host : Host) : Type 0 where
+  pub took : (bytes : List ℕ) → host.took ≡ Some bytes → IsTook s t rank host bytes
+  pub at : WorksAt s t host.stand.spot
 
-abbrev WorksOn : Settings → Timing → ℕ → Host → Type 0
+abbrev pub WorksOn : Settings → Timing → ℕ → Host → Type 0
 WorksOn s t rank host = host.on ≡ true → HostWorks s t rank host
 
 -- a disk call that returned took nothing further, and no other call did
@@ -103,7 +103,7 @@ module _ (s : Settings) (t : Timing) (back : header_of (header_bytes (length s.n
         by_rank (inl below) = (has.world.nodes rank below).ending on gone
         by_rank (inr out) = absurd (false≢true (sym (has.world.off rank out) ∙ on))
 
-    all_work : (h : List Happening) → AllMayHappen s t image h → (rank : ℕ) → WorksOn s t rank ((joint_after s image h).hosts rank)
+    pub all_work : (h : List Happening) → AllMayHappen s t image h → (rank : ℕ) → WorksOn s t rank ((joint_after s image h).hosts rank)
     unfolding joint_after AllMayHappen happens looked_first
     all_work [] may rank = λ on. absurd cc
     all_work (Passes dt clocks ∷ earlier) may rank =

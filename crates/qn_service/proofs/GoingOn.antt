@@ -50,7 +50,7 @@ takes_part s host on asked here =
     and_from (host.on && host.asked) (not (is_gone (phase s (log_at host.stand.spot)))) (and_from host.on host.asked on asked) (ap not here)
 
 -- a process that has not looked at the clock is not up
-asked_up : (s : Settings) (rank : ℕ) (host : Host) {n : Running} {took : Option What} {left : List DiskOp} {all : List Sent} → IsNode s rank host n took left all
+pub asked_up : (s : Settings) (rank : ℕ) (host : Host) {n : Running} {took : Option What} {left : List DiskOp} {all : List Sent} → IsNode s rank host n took left all
     → host.on ≡ true → phase s (log_at host.stand.spot) ≡ Up → host.asked ≡ true
 unfolding phase
 asked_up s rank host is on up = by_asked host.asked refl

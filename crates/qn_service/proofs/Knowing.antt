@@ -28,12 +28,12 @@ use Rattle.qn_service.proofs.Made.{filtered, if_is, leading_keeps, looked_notes,
 
 -- ## By rank
 
-nothing_known : {A : Type 0} (count rank : ℕ) (a : A) → of_rank (replicate count None) rank ≡ Some a → ⊥
+pub nothing_known : {A : Type 0} (count rank : ℕ) (a : A) → of_rank (replicate count None) rank ≡ Some a → ⊥
 nothing_known zero rank a is = none-some a is
 nothing_known (suc count) zero a is = none-some a is
 nothing_known (suc count) (suc rank) a is = nothing_known count rank a is
 
-newly_known : {A : Type 0} (items : List (Option A)) (i j : ℕ) (a b : A) → of_rank (slice_set items i (Some a)) j ≡ Some b
+pub newly_known : {A : Type 0} (items : List (Option A)) (i j : ℕ) (a b : A) → of_rank (slice_set items i (Some a)) j ≡ Some b
     → ((j ≡ i) × (a ≡ b)) ⊎ (of_rank items j ≡ Some b)
 newly_known [] i j a b is = inr is
 newly_known (x ∷ items) zero zero a b is = inl (refl, same_Some a b is)

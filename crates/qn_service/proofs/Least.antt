@@ -18,7 +18,7 @@ use Rattle.qn_service.proofs.Made.{if_is, leading_keeps, looked_notes, made_or_t
 use Rattle.qn_service.proofs.Ranks.{passes_in}
 
 -- where not all know names the leader is that of a view maker without names
-rank_again : (found : Option ℕ) → option_map (λ (rank : Rank). rank.0) (option_map (λ rank. record { 0 = rank }) found) ≡ found
+pub rank_again : (found : Option ℕ) → option_map (λ (rank : Rank). rank.0) (option_map (λ rank. record { 0 = rank }) found) ≡ found
 rank_again None = refl
 rank_again (Some rank) = refl
 

@@ -1,3 +1,7 @@
+pub mod Agreeing
+pub mod AnnouncedViews
+pub mod Announcing
+pub mod Beats
 pub mod Between
 pub mod ByTheImage
 pub mod Company
@@ -7,34 +11,64 @@ pub mod Early
 pub mod Everywhere
 pub mod Flags
 pub mod Followers
+pub mod FollowingLooks
+pub mod FoundCompanies
+pub mod FoundSets
+pub mod FreshHellos
 pub mod GoingOn
 pub mod Handing
 pub mod Heard
+pub mod HeardViews
+mod HelloRows
 pub mod Holders
 pub mod Holding
+pub mod JointClocks
+pub mod Keeping
 pub mod KeptLoops
 mod KeptRows
 pub mod KeptViews
 pub mod Knowing
+pub mod KnownLooks
+pub mod KnownViews
+pub mod LastLooks
+pub mod LeaderSays
 pub mod Least
+pub mod Led
+pub mod LedLooks
+pub mod LedNodes
 pub mod LeftOut
 pub mod LogViews
+pub mod LookRanks
 pub mod Made
+pub mod NearHellos
+pub mod NearLooks
+mod NearRuns
 pub mod NextLooks
+pub mod OldHellos
 pub mod OneStop
 pub mod OneView
 pub mod Outside
+pub mod OwnPast
 pub mod Owner
 pub mod RankSteps
 pub mod Ranks
 pub mod Resets
 mod Rows
+pub mod SaidHellos
+pub mod SaidNames
+pub mod SaidViews
+pub mod SeenLooks
 pub mod ServedBy
 mod ServingRows
+pub mod SettledLeaders
 pub mod Shown
+pub mod Sound
 pub mod SpotLogs
 pub mod Steps
+pub mod Telling
 pub mod Timing
 pub mod Tracing
+pub mod TurnSteps
+pub mod Waking
 pub mod Walking
 pub mod WellRows

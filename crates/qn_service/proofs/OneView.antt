@@ -50,7 +50,7 @@ found_me tick m = by_own (is_own m knows_bit)
         ∙ installs (maker.company_at (looked tick m.maker)) (maker.view_at tick m.maker) (looked tick m.maker)
 
 -- a node that may start hands its view on as it is
-open_after : (tick : ℕ) (m : NamingMaker) (present : View) → may_not_start m ≡ false → (after_look tick m).maker.view ≡ Some present → (after_look tick m).closed ≡ false
+pub open_after : (tick : ℕ) (m : NamingMaker) (present : View) → may_not_start m ≡ false → (after_look tick m).maker.view ≡ Some present → (after_look tick m).closed ≡ false
 unfolding after_look
 open_after tick m present may is =
     ap (λ o. option_map_or (is_closed_to (after_found tick m)) o false) is
@@ -159,7 +159,7 @@ keeps_it leader present look keeps had = by_way keeps.keeps
 
 module _ (s : Settings) (image : ℕ → List ℕ) (rank leader : ℕ) (present : View) where
   -- what the next happening leaves
-  next_left : (newest : Happening) (earlier : List Happening) → is_live (phase s (log_after s image (newest ∷ earlier) rank)) ≡ true
+  pub next_left : (newest : Happening) (earlier : List Happening) → is_live (phase s (log_after s image (newest ∷ earlier) rank)) ≡ true
       → ((look : LookOf) → look_of_rank s image rank newest earlier ≡ Some look → KeepsView leader present look)
       → WasLeft s image rank present earlier → WasLeft s image rank present (newest ∷ earlier)
   unfolding last_look
@@ -180,7 +180,7 @@ module _ (s : Settings) (image : ℕ → List ℕ) (rank leader : ℕ) (present 
           record { look = look; last = last_so (Some look) some; left = left; free = open_after look.tick look.maker present (keeps look some).may left }
 
   -- so at each joint
-  left_at : (old new : List Happening) → KeepsOneView s image rank leader present old new
+  pub left_at : (old new : List Happening) → KeepsOneView s image rank leader present old new
       → ((at : List Happening) → Before old at → Before at new → is_live (phase s (log_after s image at rank)) ≡ true)
       → (mid : List Happening) → Before old mid → Before mid new → WasLeft s image rank present mid
   left_at old new keeps live mid Itself back = keeps.first

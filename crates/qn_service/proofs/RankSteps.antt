@@ -1,5 +1,5 @@
 -- What each happening is to one rank: it made no look and stands where it stood, its process began, or a call of it returned.
-use Rattle.std.proofs.Common.{◌≡◌, ℕ, Bool, true, false, ◌==◌, List, ◌∷◌, Option, None, Some, if◌then◌else◌, refl, ◌∙◌, ap}
+use Rattle.std.proofs.Common.{◌≡◌, ◌⊎◌, inl, inr, ℕ, Bool, true, false, ◌==◌, List, ◌∷◌, Option, None, Some, if◌then◌else◌, refl, ◌∙◌, ap}
 use Rattle.std.specs.Prelude.{option_and_then}
 use Rattle.std.specs.Option.{option_map_or}
 use Rattle.std.proofs.lemmas.Bool.{eqb-true}
@@ -36,6 +36,7 @@ host_after s image rank h = (joint_after s image h).hosts rank
 -- a call of the rank returned
 pub record CallOf (s : Settings) (image : ℕ → List ℕ) (rank : ℕ) (newest : Happening) (earlier : List Happening) : Type 0 where
   pub made : Call
+  pub is : (newest ≡ Returns rank made) ⊎ ((base : ℕ) × (newest ≡ Looks rank base))
   pub looks : look_of s image newest earlier ≡ look_at rank (host_after s image rank earlier).stand.spot made
   pub stand : (host_after s image rank (newest ∷ earlier)).stand.spot ≡ (returned s rank made (joint_after s image earlier).time (host_after s image rank earlier)).stand.spot
 
@@ -86,6 +87,7 @@ module _ (s : Settings) (image : ℕ → List ℕ) (rank : ℕ) where
       by_owner : (b : Bool) → (other == rank) ≡ b → StepTo s image rank (Looks other base) earlier
       by_owner true is = Calls (record {
         made = call.Now (tick_of base);
+        is = inr (base, ap (λ r. Looks r base) (eqb-true other rank is));
         looks = ap (λ r. look_at r (j.hosts r).stand.spot (call.Now (tick_of base))) (eqb-true other rank is);
         stand = ap (λ c. (if c then looked_first s other base j.time (j.hosts other) else j.hosts rank).stand.spot) is
             ∙ ap (λ r. (returned s r (call.Now (tick_of base)) j.time (j.hosts r)).stand.spot) (eqb-true other rank is);
@@ -110,6 +112,7 @@ module _ (s : Settings) (image : ℕ → List ℕ) (rank : ℕ) where
       by_owner : (b : Bool) → (other == rank) ≡ b → StepTo s image rank (Returns other made) earlier
       by_owner true is = Calls (record {
         made = made;
+        is = inl (ap (λ r. Returns r made) (eqb-true other rank is));
         looks = ap (λ r. look_at r (j.hosts r).stand.spot made) (eqb-true other rank is);
         stand = ap (λ c. (if c then returned s other made j.time (j.hosts other) else j.hosts rank).stand.spot) is
             ∙ ap (λ r. (returned s r made j.time (j.hosts r)).stand.spot) (eqb-true other rank is);

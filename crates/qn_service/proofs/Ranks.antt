@@ -10,13 +10,13 @@ use Rattle.qn_base.specs.Members.{is_member}
 use Rattle.qn_member.specs.Maker.{ranks_that}
 
 -- a rank that is in a set stays there
-stays_in : (set more rank : ℕ) → is_member (record { 0 = set }) rank ≡ true → is_member (record { 0 = bit_or set more }) rank ≡ true
+pub stays_in : (set more rank : ℕ) → is_member (record { 0 = set }) rank ≡ true → is_member (record { 0 = bit_or set more }) rank ≡ true
 stays_in set more rank is =
     let one : bit_at set rank ≡ 1 = eqb-true (bit_at set rank) 1 is in
     let low = bit_at-lt more rank in
     eq-eqb (bit_at (bit_or set more) rank) 1 (bit_at_or set more rank ∙ (ap (λ bit. max bit (bit_at more rank)) one ∙ omega arith))
 
-comes_in : (set rank : ℕ) → is_member (record { 0 = bit_or set (2 ^ rank) }) rank ≡ true
+pub comes_in : (set rank : ℕ) → is_member (record { 0 = bit_or set (2 ^ rank) }) rank ≡ true
 comes_in set rank =
     let low = bit_at-lt set rank in
     eq-eqb (bit_at (bit_or set (2 ^ rank)) rank) 1 (bit_at_or set (2 ^ rank) rank ∙ (ap (max (bit_at set rank)) (bit_at-pow_same rank) ∙ omega arith))

@@ -38,7 +38,7 @@ used_image sector =
     else (if sector == slot_place 1 then slot_bytes 2 (record { incarnation = 1; clean = false })
     else mail_bytes (anonymous message.Empty)))
 
-below_two : (P : ℕ → Type 0) → P 1 → P 0 → (rank : ℕ) → rank < 2 → P rank
+pub below_two : (P : ℕ → Type 0) → P 1 → P 0 → (rank : ℕ) → rank < 2 → P rank
 below_two P two one zero below = one
 below_two P two one (suc zero) below = two
 below_two P two one (suc (suc rank)) below = absurd (omega arith)
@@ -115,11 +115,11 @@ abbrev MayBe : List Happening → Type 0
 MayBe happenings = AllMayHappen two_nodes few_ticks used_image happenings
 
 infixr 5 ◌▸◌
-◌▸◌ : {A B : Type 0} → A → B → A × B
+pub ◌▸◌ : {A B : Type 0} → A → B → A × B
 newest ▸ earlier = (newest, earlier)
 
 -- what the rows compute with
-unfoldable row_steps : Bool
+unfoldable pub row_steps : Bool
 unfolding node_steps heaviest log_from header_bytes_in mail_bytes slot_bytes header_in mail_of slot_of failed ranks_that with_ranks least_sure view_found after_found answer_at after_look choice_plan sends_plan disk_call done out_call outs_plan waits_after clocked greeted handled settled live_plan parted run_plan left_plan after_spot returned looked_first happens joint_after AllMayHappen packet_bytes
 row_steps = true
 

@@ -39,6 +39,7 @@ use Rattle.qn_live.specs.Polling.{answered, poll_due, polled}
 use Rattle.qn_live.specs.Running.{RunState}
 use Rattle.qn_live.specs.Runs.{asked_maker, greets, looked_at, taken}
 use Rattle.qn_joined.specs.Stands.{Acting, Ended, Looking, Parting, Polling, Receiving, Saying, Spot, acts_at, after_spot, begun_at, clocked_by, farewells_due, first_stand, log_at, opening, parts_at, polled_at, said_at, sends_due, settled_by, taking}
+use Rattle.qn_service.specs.Hellos.{packet_chosen}
 use Rattle.qn_service.specs.Looks.{LookOf, look_at, look_by, look_in}
 use Rattle.qn_service.specs.Shown.{copy_shown}
 use Rattle.qn_service.proofs.Configured.{IsWithin, found_fits, found_within}
@@ -48,7 +49,7 @@ use Rattle.qn_service.proofs.Least.{keeps_view}
 use Rattle.qn_service.proofs.Knowing.{Knows, Word, after_known, announce_known, begun_known, due_known, heard_known, look_known, stand_known}
 use Rattle.qn_service.proofs.Made.{if_is, leading_keeps}
 use Rattle.qn_service.proofs.SpotLogs.{acts_log, parts_log, said_log}
-use Rattle.qn_service.proofs.Walking.{answer_no_view, chooses_view, chosen_in, chosen_then, is_no_view, packet_chosen}
+use Rattle.qn_service.proofs.Walking.{answer_no_view, chooses_view, chosen_in, chosen_then, is_no_view}
 
 -- ## What came
 

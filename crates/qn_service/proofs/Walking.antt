@@ -45,6 +45,7 @@ use Rattle.qn_live.specs.Polling.{answered, answered_at, choice_beside, is_devic
 use Rattle.qn_live.specs.Running.{RunState}
 use Rattle.qn_live.specs.Runs.{asked_maker, greets, looked_at, taken}
 use Rattle.qn_joined.specs.Stands.{Acting, Ended, Looking, Parting, Polling, Receiving, Saying, Spot, acts_at, after_spot, begun_at, clocked_by, farewells_due, first_stand, left_plan, log_at, opening, parts_at, polled_at, said_at, sends_due, settled_by, taking, waits_at}
+use Rattle.qn_service.specs.Hellos.{packet_chosen, packet_waiting}
 use Rattle.qn_service.specs.Leading.{MakesView, TakesView}
 use Rattle.qn_service.specs.Looks.{LookOf, look_at, look_by, look_in, said_next}
 use Rattle.qn_service.specs.Unheard.{HasMade}
@@ -81,21 +82,6 @@ views_in (Saying sent rest st) = false
 views_in (Parting end sent rest st) = false
 views_in (Ended ran) = false
 
--- the packet that the view maker is to hear
-abbrev pub packet_chosen : Choice → Option Packet
-packet_chosen (choice.Open p) = p
-packet_chosen (choice.Whole entry) = None
-packet_chosen (choice.Answer reply) = None
-
-abbrev packet_at : Spot → Option Packet
-packet_at (Looking chosen) = packet_chosen chosen.0
-packet_at (Receiving st) = None
-packet_at (Acting entry outs o rest st) = None
-packet_at (Polling poll sents st) = None
-packet_at (Saying sent rest st) = None
-packet_at (Parting end sent rest st) = None
-packet_at (Ended ran) = None
-
 -- what the view maker sends, where a run stands
 abbrev sents_at : Spot → List Sent
 sents_at (Saying sent rest st) = sent ∷ rest
@@ -125,7 +111,7 @@ pub record Stands (s : Settings) (me : ℕ) (Q : View → Type 0) (spot : Spot) 
   pub shows : Shows Q (log_at spot)
   pub waits : is_no_view (waits_at spot).disk ≡ true
   pub chosen : views_in spot ≡ false
-  pub word : Word Q (packet_at spot)
+  pub word : Word Q (packet_waiting spot)
   pub says : AllSaid Q (sents_at spot)
   pub logged : IsLogged s me (log_at spot)
 
@@ -156,7 +142,7 @@ grown s me Q R more spot stands =
       shows = λ v is free. more v (stands.shows v is free);
       waits = stands.waits;
       chosen = stands.chosen;
-      word = grown_word Q R more (packet_at spot) stands.word;
+      word = grown_word Q R more (packet_waiting spot) stands.word;
       says = grown_said Q R more (sents_at spot) stands.says;
       logged = stands.logged;
     }

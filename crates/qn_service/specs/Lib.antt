@@ -1,8 +1,14 @@
+pub mod Agreeing
+pub mod Announced
+pub mod Announcements
 pub mod Between
 pub mod Company
+pub mod Following
 pub mod Heard
+pub mod Hellos
 pub mod Holders
 pub mod KeptViews
+pub mod Leaders
 pub mod Leading
 pub mod Looks
 pub mod Loops

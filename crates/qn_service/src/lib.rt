@@ -1,4 +1,4 @@
-//! What running nodes do for their service: which views are made and taken, and which machines are reset.
+//! What running nodes do for their service: whom they see, which views are made and taken, and which machines are reset.
 //!
 //! `specs/Leading` says of one look of a view maker whose view it gives and whom that leaves out, `specs/Looks` which looks there
 //! were in a joined run, and `specs/Unheard` which machines are reset. Promises: a look makes a view or takes one that its leader
@@ -22,21 +22,39 @@
 //! company of a leader (`law_companies_are_shown`); each look is one of a node that knows names (`law_looks_know_names`). While its looks
 //! keep a view, its log has it (`law_views_are_kept`), and so a majority whose looks agree on one has an owner (`law_looks_serve`), as in a
 //! run that is given (`law_looks_are_met`).
+//!
+//! Who is heard and seen: a node that keeps its pace says its Hellos in time (`law_hellos_are_said`), each look of another one hears it where
+//! packets come in time (`law_looks_hear`), as in a run that is given (`law_hellos_are_met`), and sees it where each of the two hears the other
+//! (`law_looks_see`). What the looks of the one leave to be said is what the other knows of it (`law_looks_know_words`), and so is a view that
+//! it announces (`law_views_are_announced`, `law_looks_know_views`), which a node that it leads keeps (`law_followers_keep`). Each look of a
+//! node of a set whose nodes stay in sight of one another sees just the set (`law_looks_find_sets`). Looks that see the same, and find the same of all, follow the same node
+//! (`law_alike_looks_follow_one`).
 #![tactic(auto)]
 
+mod hellos;
 mod laws;
 mod looks;
 mod owners;
+mod service;
 mod serving;
 
+pub use hellos::{
+    law_followers_keep, law_hellos_are_met, law_hellos_are_said, law_looks_find_sets,
+    law_looks_hear, law_looks_know_views, law_looks_know_words, law_looks_see,
+    law_views_are_announced,
+};
 pub use laws::{law_nobody_is_reset, law_reset_is_met, law_resets_the_unheard};
 pub use looks::{
-    law_company_is_view, law_followers_take_it, law_least_members_made_it, law_left_out,
-    law_made_or_taken, law_views_stay,
+    law_alike_looks_follow_one, law_company_is_view, law_followers_take_it,
+    law_least_members_made_it, law_left_out, law_made_or_taken, law_views_stay,
 };
 pub use owners::{
     law_holders_run, law_looks_by_the_image, law_moments_are_of_joints, law_nobody_heard_is_reset,
     law_owner_is_well, law_owners_go_on,
+};
+pub use service::{
+    law_announcements_come, law_companies_are_found, law_followers_come_to_it, law_leaders_settle,
+    law_looks_come_to_agree, law_nodes_serve, law_service,
 };
 pub use serving::{
     law_companies_are_shown, law_companies_settle, law_logs_show_views, law_looks_are_met,

@@ -7,6 +7,7 @@ ghost use Rattle.qn_base.specs.Members.{is_member};
 ghost use Rattle.qn_member.specs.Maker.{is_present, least_of};
 ghost use Rattle.qn_member.specs.Naming.{NamingMaker};
 ghost use Rattle.qn_member.specs.NamingViews.{after_look, is_named_anew, looked_by_name, view_found, view_of};
+ghost use Rattle.qn_service.specs.Agreeing.{FindAlike};
 ghost use Rattle.qn_service.specs.Company.{IsLedByName, IsSettled};
 ghost use Rattle.qn_service.specs.Leading.{LeavesOut, MakesView, TakesView, company_then, leader_then, names_then};
 
@@ -70,4 +71,12 @@ pub fn law_followers_take_it()
     ensures { (tick : ℕ) (m : NamingMaker) (leader : ℕ) (view : View)
         → IsLedByName tick m leader view
         → (after_look tick m).maker.view ≡ Some view }
+{}
+
+/// Law: two looks, each of a node that knows names, as all do that it sees, follow the same node, where they see the same ones and find of each
+/// the same: whether it is able, keeps, and is sure of its votes.
+pub fn law_alike_looks_follow_one()
+    ensures { (tick at : ℕ) (one other : NamingMaker)
+        → FindAlike tick at one other
+        → leader_then tick one ≡ leader_then at other }
 {}
