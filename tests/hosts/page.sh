@@ -84,8 +84,8 @@ by_the_page() {
 from_nothing() {
     by_the_page "$1" || { take_down; judged_from_now; return 1; }
     judged_from_now
-    each_host run start && until_true 60 owns 1 && load && until_true 20 on 1 quorumctl status && run look 1 && each_host unit_active || return 1
-    fault 'the tests of the page begin'
+    fault 'the nodes are started'
+    each_host run start && until_true 60 owns 1 && load && until_true 20 on 1 quorumctl status && run look 1 && each_host unit_active
 }
 unit_active() { unit_is "$1" active; }
 load_goes_on() { until_true "${1:-40}" grows "$(wc -l < "$room/acknowledged")"; }
