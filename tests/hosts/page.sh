@@ -84,6 +84,7 @@ by_the_page() {
 from_nothing() {
     by_the_page "$1" || { take_down; judged_from_now; return 1; }
     judged_from_now
+    fault 'the nodes are started'
     each_host run start && until_true 60 owns 1 && load && until_true 20 on 1 quorumctl status && run look 1 && each_host unit_active
 }
 unit_active() { unit_is "$1" active; }
